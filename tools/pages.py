@@ -1,7 +1,8 @@
 #!/usr/bin/env python3
 """Keeps the users' pages true: runs each command that they show, and compares what is written.
 
-    tools/pages.py PROGRAM [WAVE [LOOK]]    runs PROGRAM as `deodarwrench`, WAVE as `smv_wave` and LOOK as `smv_look`, on every page and example, and compares answers and statuses
+    tools/pages.py PROGRAM [WAVE [LOOK]]    runs PROGRAM as `deodarwrench`, WAVE as `smv_wave` and LOOK as `smv_look`, on every page and example, and compares answers and statuses;
+                                     LOOK explains each text of docs/FAULTS.md too, and looks at each example
     tools/pages.py --tests           writes the tables of crates/smv_top_tests, crates/smv_document_tests, crates/smv_wave_tests and crates/smv_look_tests from the pages
     tools/pages.py                   looks whether these tables are what the pages give
     tools/pages.py --answers PROGRAM    writes examples/*.answer; read what changed before it is kept
@@ -35,6 +36,12 @@ TABLES = TOP / "crates/smv_top_tests/src"
 DOCUMENTS = TOP / "crates/smv_document_tests/src/pages.rt"
 DUMPS = TOP / "crates/smv_wave_tests/src/pages.rt"
 LOOKS = TOP / "crates/smv_look_tests/src/pages.rt"
+MISTAKES = TOP / "crates/smv_look_tests/src/mistakes.rt"
+FAULTS = "docs/FAULTS.md"
+# A fault's number and its rule, in a heading.
+RULE = re.compile(r"^### Fault (\d+): (.*)$", re.M)
+# The answer that a text with a fault has.
+FAULT = re.compile(r"fault (\d+) at line (\d+) column (\d+)\n")
 FENCED = re.compile(r"^```(smv|make|sh|diff|console|marked)(?: (\S+))?(?: (\S+))?\n(.*?)^```$", re.M | re.S)
 FENCES = re.compile(r"^```(?:smv|make|sh|diff|console|marked)", re.M)
 # The programs beside the prover, in the order in which they are given.
@@ -47,6 +54,8 @@ PART = 9_200
 PLAIN = re.compile(r"deodarwrench ([^<|]+?) < (\S+)")
 ECHO = re.compile(r"echo '([^']*)' \| deodarwrench (\w+)")
 SCRIPT = re.compile(r"\b(?:sh|make)\b")
+# One whose text has a fault: that of a file, or one that is written out.
+MISTAKE = re.compile(r"deodarwrench prove < (\S+)|echo \"([^\"]*)\" \| deodarwrench prove")
 BLANKS = re.compile(r"printf '%(\d+)s' '' \| deodarwrench (\w+)")
 # One whose report a test can give the program of waveforms.
 WAVE = re.compile(r"(deodarwrench prove < \S+) \| smv_wave")
@@ -78,7 +87,7 @@ def status(command, answer):
         return 10
     if re.match(r"\S+: real at \d+\n", answer):
         return 11
-    if NO_CASE.fullmatch(answer):
+    if NO_CASE.fullmatch(answer) or command.startswith("smv_look lint") and answer:
         return 1
     return 8 if " only " in command and not SCRIPT.search(command) else 0
 
@@ -142,10 +151,51 @@ def everything():
     return [(page, *read_page(page)) for page in PAGES] + [("examples", {}, example_commands())]
 
 
+def mistakes():
+    """Returns the texts of the page of faults, each with what `smv_look explain` answers: the line of `prove`, the line of the text, and a mark below it with the rule."""
+    rules = dict(RULE.findall((TOP / FAULTS).read_text()))
+    files, commands = read_page(FAULTS)
+    found = []
+    for command, answer in commands:
+        fault, shown = FAULT.fullmatch(answer), MISTAKE.fullmatch(command)
+        if fault and shown:
+            text = files[shown[1]] if shown[1] else shown[2] + "\n"
+            number, line, column = fault.groups()
+            there = text.split("\n")[int(line) - 1]
+            mark = "".join("\t" if sign == "\t" else " " for sign in there[: int(column) - 1]) + "^ " + rules[number]
+            found.append((text, f"{answer}  | {there}\n  | {mark}\n"))
+    return found
+
+
+def run_looks(look):
+    """Runs `smv_look` on the mistakes and on every example, and returns how many answers are not as they should be."""
+
+    def ran(words, text):
+        it = subprocess.run([Path(look).resolve(), *words], input=text, capture_output=True, text=True)
+        return it.stdout, it.returncode
+
+    wrong = []
+    for text, answer in mistakes():
+        if ran(["explain"], text) != (answer, 3):
+            wrong.append(f"explain of\n{text}")
+    for example in sorted((TOP / "examples").glob("*.smv")):
+        text = example.read_text()
+        lines, units = ran(["list"], text)
+        wrong += [f"list of {example.name}"] if units else []
+        for line in lines.splitlines():
+            if not line.startswith(" ") and ran(["cone", line.split(":")[0]], text)[1]:
+                wrong.append(f"cone of {example.name}: {line}")
+        wrong += [f"explain of {example.name}"] if ran(["explain"], text) != ("", 0) else []
+        warned, code = ran(["lint"], text)
+        wrong += [f"lint of {example.name}"] if code != int(warned != "") else []
+    print("\n".join([*wrong, f"smv_look: {len(mistakes())} mistakes, and each example"]))
+    return len(wrong)
+
+
 def run_all(program, *more):
     """Runs every command and returns how many answers differ. Those with a program that is not given are left out."""
-    wrong = 0
     beside = dict(zip(BESIDE, more))
+    wrong = run_looks(beside["smv_look"]) if "smv_look" in beside else 0
     for page, files, commands in everything():
         with tempfile.TemporaryDirectory() as folder:
             os.symlink(Path(program).resolve(), f"{folder}/deodarwrench")
@@ -334,13 +384,29 @@ def looks():
     return LOOKS, "\n".join([*lines, ""])
 
 
+def explained():
+    """Returns the module of tests of the mistakes that are explained: its file and its lines."""
+    rows = [row(['"explain"', quoted(text), "3", quoted(answer)]) for text, answer in mistakes()]
+    lines = [
+        f"//! The texts of `{FAULTS}`, which have a fault each, with what `explain` says of it. Written by `tools/pages.py --tests`.",
+        "",
+        "use crate::rows::{Row, all_are_answered};",
+        "use std::test::Fail;",
+    ]
+    for number, part in enumerate(parts(rows), 1):
+        lines += ["", *constant(f"ROWS_{number}: &[Row]", part)]
+        lines += ["", "#[test]", f"fn mistakes_are_explained_{number}(rt: HostRuntime) -> Result<(), Fail> {{"]
+        lines += [f"    all_are_answered(rt.alloc(), ROWS_{number})", "}"]
+    return MISTAKES, "\n".join([*lines, ""])
+
+
 def tables():
     """Returns the modules of tests: their files and lines."""
     together = {}
     for page in everything():
         if page[0] in MODULES:
             together.setdefault(MODULES[page[0]], []).append(page)
-    return [*(table(*pages) for pages in together.items()), apart(), dumps(), looks()]
+    return [*(table(*pages) for pages in together.items()), apart(), dumps(), looks(), explained()]
 
 
 def main(words):

@@ -18,9 +18,17 @@ pub cone_is : (rows : List Row) → named (codes "cone") rows ≡ option_map (λ
 unfolding named
 cone_is rows = refl
 
-pub no_name : (word : Text) (rows : List Row) → bytes_eq word (codes "list") ≡ false → bytes_eq word (codes "cone") ≡ false → named word rows ≡ None
+pub lint_is : (rows : List Row) → named (codes "lint") rows ≡ Some variant.Lint
 unfolding named
-no_name word rows t1 t2 = rw (t1, t2) refl
+lint_is rows = refl
+
+pub explain_is : (rows : List Row) → named (codes "explain") rows ≡ Some variant.Explain
+unfolding named
+explain_is rows = refl
+
+pub no_name : (word : Text) (rows : List Row) → bytes_eq word (codes "list") ≡ false → bytes_eq word (codes "cone") ≡ false → bytes_eq word (codes "lint") ≡ false → bytes_eq word (codes "explain") ≡ false → named word rows ≡ None
+unfolding named
+no_name word rows t1 t2 t3 t4 = rw (t1, t2, t3, t4) refl
 
 -- ---- the same at a word that is the name
 
@@ -32,6 +40,12 @@ at_list word rows e = at_word word (codes "list") rows e ∙ list_is rows
 
 pub at_cone : (word : Text) (rows : List Row) → bytes_eq word (codes "cone") ≡ true → named word rows ≡ option_map (λ p. Cone p.0 p.1) (both (name_in rows) (number_in most_cases (codes "CASE") rows))
 at_cone word rows e = at_word word (codes "cone") rows e ∙ cone_is rows
+
+pub at_lint : (word : Text) (rows : List Row) → bytes_eq word (codes "lint") ≡ true → named word rows ≡ Some variant.Lint
+at_lint word rows e = at_word word (codes "lint") rows e ∙ lint_is rows
+
+pub at_explain : (word : Text) (rows : List Row) → bytes_eq word (codes "explain") ≡ true → named word rows ≡ Some variant.Explain
+at_explain word rows e = at_word word (codes "explain") rows e ∙ explain_is rows
 
 -- what a named query was given
 pub given_to_cone : (word : Text) (rows : List Row) → bytes_eq word (codes "cone") ≡ true → is_some (named word rows) ≡ true

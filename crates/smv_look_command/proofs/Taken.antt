@@ -12,7 +12,7 @@ use Rattle.smv_command.proofs.Values.{both_given, number_given}
 use Rattle.smv_look_command.specs.CommandLine as line
 use Rattle.smv_look_command.specs.Queries.{most_cases, named}
 use Rattle.smv_look_command.specs.declared.queries.Query.TheVariants.{Cone}
-use Rattle.smv_look_command.proofs.ByName.{cone_is, list_is}
+use Rattle.smv_look_command.proofs.ByName.{cone_is, explain_is, lint_is, list_is}
 
 -- the subcommands as a parse sees them, once the command is built
 abbrev above : Shape
@@ -54,7 +54,9 @@ cone_given rest e =
 among_gives : (s : Shape) (rest : List Text) → Among s (built line.smv_look).subs → Gives rest s
 among_gives s rest (inl is) = subst (Gives rest) (sym is) (λ e. ap is_some (list_is (rows_after [] [] rest)))
 among_gives s rest (inr (inl is)) = subst (Gives rest) (sym is) (cone_given rest)
-among_gives s rest (inr (inr never)) = absurd never
+among_gives s rest (inr (inr (inl is))) = subst (Gives rest) (sym is) (λ e. ap is_some (lint_is (rows_after [] [] rest)))
+among_gives s rest (inr (inr (inr (inl is)))) = subst (Gives rest) (sym is) (λ e. ap is_some (explain_is (rows_after [] [] rest)))
+among_gives s rest (inr (inr (inr (inr never)))) = absurd never
 
 -- words without a fault name a query
 pub taken_named : (words : List Text) → fault_of line.smv_look words ≡ [] → is_some (option_and_then (λ found. named found.0 found.1) (subcommand_of line.smv_look words)) ≡ true

@@ -17,6 +17,12 @@ list = subcommand (codes "list") []
 abbrev pub cone : Shape
 cone = subcommand (codes "cone") (name ∷ case ∷ [])
 
+abbrev pub lint : Shape
+lint = subcommand (codes "lint") []
+
+abbrev pub explain : Shape
+explain = subcommand (codes "explain") []
+
 -- no program's name stands before the words, a subcommand is required, and nothing asks for help or the version
 abbrev pub bare : Shape
 bare = record (new_shape (codes "smv_look")) {
@@ -28,4 +34,4 @@ bare = record (new_shape (codes "smv_look")) {
 }
 
 abbrev pub smv_look : App
-smv_look = record { top = record bare { is_leaf = false }; subs = list ∷ cone ∷ [] }
+smv_look = record { top = record bare { is_leaf = false }; subs = list ∷ cone ∷ lint ∷ explain ∷ [] }

@@ -18,7 +18,9 @@ unfoldable pub named : Text → List Row → Option Query
 named word rows =
     if bytes_eq word (codes "list") then Some variant.List
     else (if bytes_eq word (codes "cone") then option_map (λ p. variant.Cone p.0 p.1) (both (name_in rows) (number_in most_cases (codes "CASE") rows))
-    else None)
+    else (if bytes_eq word (codes "lint") then Some variant.Lint
+    else (if bytes_eq word (codes "explain") then Some variant.Explain
+    else None)))
 
 -- the query that the words are: that of the subcommand that clap finds in them, where it finds no fault
 unfoldable pub query_of : List Text → Option Query

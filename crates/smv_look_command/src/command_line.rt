@@ -13,7 +13,9 @@ pub(crate) fn smv_look<'a>(alloc: Global) -> Result<Command<'a>, AllocError>
 {
     bare(alloc)
         .subcommand(Command::new(alloc, "list"))?
-        .subcommand(cone(alloc)?)
+        .subcommand(cone(alloc)?)?
+        .subcommand(Command::new(alloc, "lint"))?
+        .subcommand(Command::new(alloc, "explain"))
 }
 
 // The command before its subcommands.

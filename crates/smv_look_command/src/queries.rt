@@ -8,4 +8,8 @@ pub enum Query {
     List,
     /// The cone of a case of the unit of this name; cases are numbered from 1.
     Cone { name: Name, case: usize },
+    /// What is warned of in a text.
+    Lint,
+    /// What a fault of a text is about.
+    Explain,
 }

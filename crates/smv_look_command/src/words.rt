@@ -52,6 +52,10 @@ fn named(alloc: Global, word: &str, matches: &ArgMatches<'_>) -> Result<Query, A
         let name = text_in(alloc, matches, "NAME")?;
         let case = case_in(matches);
         Ok(Query::Cone { name, case })
+    } else if word == "lint" {
+        Ok(Query::Lint)
+    } else if word == "explain" {
+        Ok(Query::Explain)
     } else {
         unreachable!()
     }

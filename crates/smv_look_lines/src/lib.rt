@@ -11,3 +11,4 @@ mod parts;
 
 pub use cones::{Look, cone_lines, count_line};
 pub use lists::list_lines;
+pub use parts::{push_place, push_type};

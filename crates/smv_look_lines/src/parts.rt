@@ -65,7 +65,7 @@ pub(crate) fn set_name(design: &Design, set: u16) -> &[u8]
 }
 
 /// Writes a type.
-pub(crate) fn push_type(out: &mut Vec<u8>, design: &Design, over: Simple) -> Result<(), AllocError>
+pub fn push_type(out: &mut Vec<u8>, design: &Design, over: Simple) -> Result<(), AllocError>
     ensures { OnOk result (out.new.items ≡ out.old.items ++ type_text design.now over) }
 {
     match over {
@@ -120,7 +120,7 @@ pub(crate) fn place_of_unit(design: &Design, unit: Unit) -> u32
 }
 
 /// Writes the line and the column of an offset of a text.
-pub(crate) fn push_place(out: &mut Vec<u8>, text: &[u8], at: u32) -> Result<(), AllocError>
+pub fn push_place(out: &mut Vec<u8>, text: &[u8], at: u32) -> Result<(), AllocError>
     ensures { OnOk result (out.new.items ≡ out.old.items ++ place_text text.now at) }
 {
     let at = at as usize;

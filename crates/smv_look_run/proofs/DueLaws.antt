@@ -1,11 +1,12 @@
 -- What is due to a query, by what its parts are.
-use Rattle.std.proofs.Common.{◌≡◌, ◌∙◌, ℕ, List, Option, Some, None, Err, sym, ap, subst}
+use Rattle.std.proofs.Common.{◌≡◌, ◌∙◌, ℕ, List, [], Option, Some, None, Err, sym, ap, subst}
 use Rattle.smv_core.specs.declared.fault.Fault.{Fault}
 use Rattle.smv_core.specs.declared.fault.Refusal.{Refusal}
 use Rattle.smv_core.specs.declared.fault.Refusal.TheVariants as refusal
 use Rattle.smv_core.specs.declared.flat.Unit.{Unit}
 use Rattle.smv_problem.specs.declared.report.Plan.{Plan}
-use Rattle.smv_report.specs.Lines.{fault_text}
+use Rattle.smv_core.specs.declared.tree.Text.{Text}
+use Rattle.smv_parse.specs.Spelling.{SpellsText}
 use Rattle.law_obligations.specs.Outlines.{place_of}
 use Rattle.smv_lex.specs.Answers.{IfFault}
 use Rattle.law_valid_texts.specs.Rooms.{IsWholePlan}
@@ -15,10 +16,11 @@ use Rattle.smv_read_design.specs.Named.{is_named}
 use Rattle.smv_look_command.specs.declared.queries.Query.{Query}
 use Rattle.smv_look_command.specs.declared.queries.Query.TheVariants as query
 use Rattle.smv_look_lines.specs.Lists.{list_lines}
+use Rattle.smv_look_lint.specs.Lines.{lint_lines}
 use Rattle.smv_look_run.specs.declared.Status.{Status}
 use Rattle.smv_look_run.specs.declared.Status.TheVariants.{Written, Refused}
 use Rattle.smv_look_run.specs.Cases.{IsShownAt}
-use Rattle.smv_look_run.specs.Dues.{IsDue, IsFault, listed, refused, shown, unnamed}
+use Rattle.smv_look_run.specs.Dues.{IsDue, faultless, lint_status, linted, listed, refusal_text, shown, unnamed}
 use Rattle.smv_look_run.proofs.Endings.{due_fault}
 
 -- the fault that a call answers
@@ -40,12 +42,20 @@ module _ (asked : Query) (text : List ℕ) (plan : Plan) (has : HasPlan text pla
   pub due_list : (due : Status) (answer : List ℕ) → asked ≡ query.List → due ≡ Written → answer ≡ list_lines text plan → IsDue asked text due answer
   due_list due answer is e f = rw is (rw e (rw f (listed plan has)))
 
+  -- the warnings
+  pub due_lint : (tree : Text) (due : Status) (answer : List ℕ) → SpellsText text tree → asked ≡ query.Lint → due ≡ lint_status answer → answer ≡ lint_lines text tree plan → IsDue asked text due answer
+  due_lint tree due answer spelled is e f = rw is (rw e (rw f (linted tree plan spelled has)))
+
+  -- nothing to explain
+  pub due_faultless : (due : Status) (answer : List ℕ) → asked ≡ query.Explain → due ≡ Written → answer ≡ [] → IsDue asked text due answer
+  due_faultless due answer is e f = rw is (rw e (rw f (faultless plan has)))
+
   module _ (name shown_name : List ℕ) (number : ℕ) (is : asked ≡ query.Cone name number) (units : List Unit) (same : units ≡ plan.units) (bytes : shown_name ≡ name) where
     -- the case of the unit that has the name
     pub due_shown : (place : Option ℕ) (u : ℕ) (due : Status) (answer : List ℕ) → place ≡ place_of (is_named plan.design shown_name) units → place ≡ Some u → IsShownAt plan u number due answer → IsDue asked text due answer
     due_shown place u due answer found at there = rw is (shown name number plan u has (found_among plan name shown_name units same bytes place (Some u) found at) there)
 
     -- no unit has it
-    pub due_unnamed : (place : Option ℕ) (due : Status) (answer : List ℕ) → place ≡ place_of (is_named plan.design shown_name) units → place ≡ None → due ≡ Refused → answer ≡ fault_text text 26 0 → IsDue asked text due answer
+    pub due_unnamed : (place : Option ℕ) (due : Status) (answer : List ℕ) → place ≡ place_of (is_named plan.design shown_name) units → place ≡ None → due ≡ Refused → answer ≡ refusal_text asked text 26 0 → IsDue asked text due answer
     due_unnamed place due answer found none e f =
-        rw is (due_fault (query.Cone name number) text 26 0 due answer (unnamed name number plan has (found_among plan name shown_name units same bytes place None found none)) e f)
+        due_fault asked text 26 0 due answer (rw is (unnamed name number plan has (found_among plan name shown_name units same bytes place None found none))) e f

@@ -11,10 +11,11 @@ use Rattle.smv_report.specs.Lines.{fault_text}
 use Rattle.smv_command.specs.declared.commands.Command.{Command}
 use Rattle.law_answers.specs.Dues.{limit, too_long}
 use Rattle.smv_look_command.specs.declared.queries.Query.{Query}
+use Rattle.smv_look_lint.specs.Lines.{lint_lines}
 use Rattle.smv_look_run.specs.declared.Status.{Status}
-use Rattle.smv_look_run.specs.declared.Status.TheVariants.{Written, NoCase, Refused, Usage, ReadFault, WriteFault, OutOfMemory}
+use Rattle.smv_look_run.specs.declared.Status.TheVariants.{Written, Warned, NoCase, Refused, Usage, ReadFault, WriteFault, OutOfMemory}
 use Rattle.smv_look_run.specs.Cases.{IsShownAt, cone_status}
-use Rattle.smv_look_run.specs.Dues.{Ends, Gave, IsDue, IsDueTo, IsFault, faulty, listed, refused, shown, usage_line}
+use Rattle.smv_look_run.specs.Dues.{Ends, Gave, IsDue, IsDueTo, IsFault, explained, faulty, faultless, lint_status, linted, listed, refusal_text, refused, shown, usage_line}
 
 -- ---- what the source gave
 
@@ -43,9 +44,15 @@ of_case : (found : Option (List Class)) → is_answered (cone_status found) ≡ 
 of_case (Some classes) = refl
 of_case None = refl
 
+of_lint : (lines : List ℕ) → is_answered (lint_status lines) ≡ true
+of_lint [] = refl
+of_lint (byte ∷ lines) = refl
+
 of_query : (asked : Query) (text : List ℕ) (due : Status) (answer : List ℕ) → IsDue asked text due answer → is_answered due ≡ true
 of_query _ text _ _ (listed plan has) = refl
 of_query _ text _ _ (shown name number plan u has first at) = ap is_answered at.status ∙ of_case _
+of_query _ text _ _ (linted tree plan spelled has) = of_lint (lint_lines text tree plan)
+of_query _ text _ _ (faultless plan has) = refl
 of_query asked text _ _ (refused number at fault) = refl
 
 answers : (asked : Option Query) (text : List ℕ) (due : Status) (answer : List ℕ) → IsDueTo asked text due answer → is_answered due ≡ true
@@ -62,6 +69,7 @@ finished status r asked text answer old new due taken front (inl e) = rw e (whol
   where
     whole : (status : Status) → is_answered status ≡ true → IsDueTo asked text status answer → Appends old new answer → Ends status asked text old new
     whole Written is due all = (answer, due, all)
+    whole Warned is due all = (answer, due, all)
     whole NoCase is due all = (answer, due, all)
     whole Refused is due all = (answer, due, all)
     whole Usage is due all = (answer, due, all)
@@ -71,19 +79,23 @@ finished status r asked text answer old new due taken front (inl e) = rw e (whol
 
 -- ---- what is due
 
-line_31 : (text : List ℕ) → codes "fault 31 at line 1 column 1" ++ 10 ∷ [] ≡ fault_text text 31 0
+pub line_31 : (text : List ℕ) → codes "fault 31 at line 1 column 1" ++ 10 ∷ [] ≡ fault_text text 31 0
 unfolding digits
 line_31 text = refl
 
-pub due_fault : (asked : Query) (text : List ℕ) (number at : ℕ) (due : Status) (answer : List ℕ) → IsFault asked text number at → due ≡ Refused → answer ≡ fault_text text number at → IsDue asked text due answer
+pub explained_31 : (text : List ℕ) → (codes "fault 31 at line 1 column 1" ++ 10 ∷ []) ++ codes "  | the text has more than 1,048,576 bytes" ++ 10 ∷ [] ≡ explained text 31 0
+unfolding digits
+explained_31 text = refl
+
+pub due_fault : (asked : Query) (text : List ℕ) (number at : ℕ) (due : Status) (answer : List ℕ) → IsFault asked text number at → due ≡ Refused → answer ≡ refusal_text asked text number at → IsDue asked text due answer
 due_fault asked text number at due answer is e f = rw e (rw f (refused number at is))
 
 -- a text that is too long
 pub is_long : (asked : Query) (text : List ℕ) → limit < length text → IsFault asked text 31 0
 is_long asked text long = faulty (record { number = 31; at = 0 }) (λ command decides. too_long long)
 
-pub due_long : (asked : Query) (text answer : List ℕ) → limit < length text → answer ≡ codes "fault 31 at line 1 column 1" ++ 10 ∷ [] → IsDue asked text Refused answer
-due_long asked text answer long e = due_fault asked text 31 0 Refused answer (is_long asked text long) refl (e ∙ line_31 text)
+pub due_long : (asked : Query) (text answer : List ℕ) → limit < length text → ((t : List ℕ) → answer ≡ refusal_text asked t 31 0) → IsDue asked text Refused answer
+due_long asked text answer long e = due_fault asked text 31 0 Refused answer (is_long asked text long) refl (e text)
 
 pub due_usage : (asked : Option Query) (text answer : List ℕ) → asked ≡ None → answer ≡ usage_line → IsDueTo asked text Usage answer
 due_usage asked text answer none is = rw none (refl, is)

@@ -1,7 +1,9 @@
 -- What a call owes: its status and its whole answer.
-use Rattle.std.specs.Prelude.{◌≡◌, ℕ, List, [], ◌∷◌, ◌++◌, codes, Option, Some, None, IfSome}
+use Rattle.std.specs.Prelude.{◌≡◌, ℕ, List, [], ◌∷◌, ◌++◌, codes, Option, Some, None, IfSome, if◌then◌else◌, nat_eq}
 use Rattle.std.specs.Io.KnownBytes.{Appends, Keeps}
 use Rattle.smv_core.specs.declared.fault.Fault.{Fault}
+use Rattle.smv_core.specs.declared.tree.Text.{Text}
+use Rattle.smv_parse.specs.Spelling.{SpellsText}
 use Rattle.smv_problem.specs.declared.report.Plan.{Plan}
 use Rattle.smv_io.specs.Transfers.{TookFront}
 use Rattle.smv_report.specs.Lines.{fault_text}
@@ -11,13 +13,16 @@ use Rattle.smv_read_design.specs.Named.{is_named}
 use Rattle.smv_look_command.specs.declared.queries.Query.{Query}
 use Rattle.smv_look_command.specs.declared.queries.Query.TheVariants as query
 use Rattle.smv_look_lines.specs.Lists.{list_lines}
+use Rattle.smv_look_lint.specs.Lines.{lint_lines}
+use Rattle.smv_look_explain.specs.Faults.{fault_lines, unshown_lines}
 use Rattle.smv_look_run.specs.declared.Status.{Status}
-use Rattle.smv_look_run.specs.declared.Status.TheVariants.{Written, NoCase, Refused, Usage, ReadFault, WriteFault, OutOfMemory}
+use Rattle.smv_look_run.specs.declared.Status.TheVariants.{Written, Warned, NoCase, Refused, Usage, ReadFault, WriteFault, OutOfMemory}
 use Rattle.smv_look_run.specs.Cases.{IsShownAt}
 
 -- the exit status of the program
 abbrev pub number_of : Status → ℕ
 number_of Written = 0
+number_of Warned = 1
 number_of NoCase = 1
 number_of Refused = 3
 number_of Usage = 4
@@ -30,15 +35,31 @@ pub data IsFault : Query → List ℕ → ℕ → ℕ → Type 0 where
   faulty : {asked : Query} {text : List ℕ} (fault : Fault) → IsFaultOf text fault → IsFault asked text fault.number fault.at
   unnamed : {text : List ℕ} (name : List ℕ) (number : ℕ) (plan : Plan) → HasPlan text plan → place_of (is_named plan.design name) plan.units ≡ None → IsFault (query.Cone name number) text 26 0
 
+-- the lines of a fault with the line of the text where it stands, which is not shown where the text is too long
+abbrev pub explained : List ℕ → ℕ → ℕ → List ℕ
+explained text number at = if nat_eq number 31 then unshown_lines text number at else fault_lines text number at
+
+-- the lines of a fault under a query
+abbrev pub refusal_text : Query → List ℕ → ℕ → ℕ → List ℕ
+refusal_text query.Explain text number at = explained text number at
+refusal_text _ text number at = fault_text text number at
+
+-- the status under which these warnings are written
+abbrev pub lint_status : List ℕ → Status
+lint_status [] = Written
+lint_status (byte ∷ lines) = Warned
+
 -- the status and the whole answer that a query and its text call for
 pub data IsDue : Query → List ℕ → Status → List ℕ → Type 0 where
   listed : {text : List ℕ} (plan : Plan) → HasPlan text plan → IsDue query.List text Written (list_lines text plan)
   shown : {text : List ℕ} {due : Status} {answer : List ℕ} (name : List ℕ) (number : ℕ) (plan : Plan) (u : ℕ) → HasPlan text plan → place_of (is_named plan.design name) plan.units ≡ Some u → IsShownAt plan u number due answer →
       IsDue (query.Cone name number) text due answer
-  refused : {asked : Query} {text : List ℕ} (number at : ℕ) → IsFault asked text number at → IsDue asked text Refused (fault_text text number at)
+  linted : {text : List ℕ} (tree : Text) (plan : Plan) → SpellsText text tree → HasPlan text plan → IsDue query.Lint text (lint_status (lint_lines text tree plan)) (lint_lines text tree plan)
+  faultless : {text : List ℕ} (plan : Plan) → HasPlan text plan → IsDue query.Explain text Written []
+  refused : {asked : Query} {text : List ℕ} (number at : ℕ) → IsFault asked text number at → IsDue asked text Refused (refusal_text asked text number at)
 
 abbrev pub usage_line : List ℕ
-usage_line = codes "usage: smv_look list|cone NAME [CASE] < TEXT" ++ 10 ∷ []
+usage_line = codes "usage: smv_look list|cone NAME [CASE]|lint|explain < TEXT" ++ 10 ∷ []
 
 -- the same for words, which may be no query
 abbrev pub IsDueTo : Option Query → List ℕ → Status → List ℕ → Type 0

@@ -8,9 +8,8 @@ ghost use Rattle.law_valid_texts.specs.Rooms.{HasRoom, IsWholePlan};
 ghost use Rattle.smv_cases.specs.Slots.{classes_of};
 ghost use Rattle.smv_look_command.specs.declared.queries.Query.TheVariants as variant;
 ghost use Rattle.smv_read_design.specs.Answers.{HasPlan};
-ghost use Rattle.smv_report.specs.Lines.{fault_text};
 ghost use Rattle.smv_look_run.specs.Cases.{IsShownAt, case_numbered, case_text, cone_status, cone_text};
-ghost use Rattle.smv_look_run.specs.Dues.{IsDue};
+ghost use Rattle.smv_look_run.specs.Dues.{IsDue, explained, lint_status, refusal_text};
 
 use crate::Status;
 use law_valid_texts::parts_of_texts::cases_are_of_leaves;
@@ -22,7 +21,10 @@ use smv_cone::cone;
 use smv_core::flat::{Case, Choice, Design, Leaf, Unit};
 use smv_core::{Fault, Name, Refusal};
 use smv_look_command::Query;
+use smv_look_explain::{fault_lines, unshown_lines};
 use smv_look_lines::{Look, cone_lines, count_line, list_lines};
+use smv_look_lint::lint_lines;
+use smv_parse::parse;
 use smv_problem::Plan;
 use smv_read_design::{place_named, plans_of_valid_texts_are_whole, read_design};
 use smv_report::fault_line;
@@ -43,7 +45,7 @@ pub(crate) fn answer_to(alloc: Global, query: &Query, text: &[u8]) -> Result<Ans
     ensures { IfOk result (λ answer. IsDue query.now text.now answer.status answer.bytes.items) }
 {
     if text.len() > LIMIT {
-        return refused(alloc, text, Fault { number: 31, at: 0 });
+        return refused(alloc, query, text, Fault { number: 31, at: 0 });
     }
     looked(alloc, query, text)
 }
@@ -56,13 +58,14 @@ fn looked(alloc: Global, query: &Query, text: &[u8]) -> Result<Answer, AllocErro
     plans_of_valid_texts_are_whole();
     match read_design(alloc, text) {
         Ok(plan) => told(alloc, query, text, &plan),
-        Err(Refusal::Fault(fault)) => refused(alloc, text, fault),
+        Err(Refusal::Fault(fault)) => refused(alloc, query, text, fault),
         Err(Refusal::OutOfMemory) => Err(AllocError),
     }
 }
 
 // What a query asks of the plan of its text.
 fn told(alloc: Global, query: &Query, text: &[u8], plan: &Plan) -> Result<Answer, AllocError>
+    requires short { length text.now ≤ limit }
     requires plan { HasPlan text.now plan.now }
     requires whole { IsWholePlan plan.now }
     ensures { IfOk result (λ answer. IsDue query.now text.now answer.status answer.bytes.items) }
@@ -70,6 +73,8 @@ fn told(alloc: Global, query: &Query, text: &[u8], plan: &Plan) -> Result<Answer
     match query {
         Query::List => listed(alloc, query, text, plan),
         Query::Cone { name, case } => named(alloc, query, text, plan, name, *case),
+        Query::Lint => linted(alloc, query, text, plan),
+        Query::Explain => faultless(alloc, query, text, plan),
     }
 }
 
@@ -81,6 +86,44 @@ fn listed(alloc: Global, query: &Query, text: &[u8], plan: &Plan) -> Result<Answ
     ensures { IfOk result (λ answer. IsDue query.now text.now answer.status answer.bytes.items) }
 {
     let bytes = list_lines(alloc, text, plan)?;
+    let status = Status::Written;
+    Ok(Answer { status, bytes })
+}
+
+// The status under which these warnings are written.
+fn lint_status(lines: &[u8]) -> Status
+    ensures { result ≡ lint_status lines.now }
+{
+    match lines {
+        [] => Status::Written,
+        _ => Status::Warned,
+    }
+}
+
+// What is warned of in a text.
+fn linted(alloc: Global, query: &Query, text: &[u8], plan: &Plan) -> Result<Answer, AllocError>
+    requires short { length text.now ≤ limit }
+    requires asks { query.now ≡ variant.Lint }
+    requires plan { HasPlan text.now plan.now }
+    ensures { IfOk result (λ answer. IsDue query.now text.now answer.status answer.bytes.items) }
+{
+    match parse(alloc, text) {
+        Ok(tree) => {
+            let bytes = lint_lines(alloc, text, &tree, plan)?;
+            let status = lint_status(bytes.as_slice());
+            Ok(Answer { status, bytes })
+        }
+        Err(_) => Err(AllocError),
+    }
+}
+
+// A text without a fault, of which there is nothing to explain.
+fn faultless(alloc: Global, query: &Query, text: &[u8], plan: &Plan) -> Result<Answer, AllocError>
+    requires asks { query.now ≡ variant.Explain }
+    requires plan { HasPlan text.now plan.now }
+    ensures { IfOk result (λ answer. IsDue query.now text.now answer.status answer.bytes.items) }
+{
+    let bytes = Vec::new(alloc);
     let status = Status::Written;
     Ok(Answer { status, bytes })
 }
@@ -102,7 +145,7 @@ fn named(
     let place = place_named(alloc, &plan.design, plan.units.as_slice(), name.as_bytes())?;
     match place {
         Some(u) => at_place(alloc, plan, u, case),
-        None => refused(alloc, text, Fault { number: 26, at: 0 }),
+        None => refused(alloc, query, text, Fault { number: 26, at: 0 }),
     }
 }
 
@@ -233,12 +276,35 @@ fn of_case(
     }
 }
 
-// The answer to a text that is refused.
-fn refused(alloc: Global, text: &[u8], fault: Fault) -> Result<Answer, AllocError>
-    ensures status { IfOk result (λ answer. answer.status ≡ Status.Refused) }
-    ensures bytes { IfOk result (λ answer. answer.bytes.items ≡ fault_text text.now fault.number fault.at) }
+// The lines of a fault with the line of the text where it stands.
+fn explained(alloc: Global, text: &[u8], fault: Fault) -> Result<Vec<u8>, AllocError>
+    ensures { IfOk result (λ lines. lines.items ≡ explained text.now fault.number fault.at) }
 {
-    let bytes = fault_line(alloc, text, fault)?;
+    if fault.number == 31 {
+        unshown_lines(alloc, text, fault)
+    } else {
+        fault_lines(alloc, text, fault)
+    }
+}
+
+// The lines of a fault under a query.
+fn refusal(alloc: Global, query: &Query, text: &[u8], fault: Fault) -> Result<Vec<u8>, AllocError>
+    ensures { IfOk result (λ lines. lines.items ≡ refusal_text query.now text.now fault.number fault.at) }
+{
+    match query {
+        Query::List => fault_line(alloc, text, fault),
+        Query::Cone { name: _, case: _ } => fault_line(alloc, text, fault),
+        Query::Lint => fault_line(alloc, text, fault),
+        Query::Explain => explained(alloc, text, fault),
+    }
+}
+
+// The answer to a text that is refused.
+fn refused(alloc: Global, query: &Query, text: &[u8], fault: Fault) -> Result<Answer, AllocError>
+    ensures status { IfOk result (λ answer. answer.status ≡ Status.Refused) }
+    ensures bytes { IfOk result (λ answer. answer.bytes.items ≡ refusal_text query.now text.now fault.number fault.at) }
+{
+    let bytes = refusal(alloc, query, text, fault)?;
     let status = Status::Refused;
     Ok(Answer { status, bytes })
 }

@@ -9,7 +9,7 @@ ghost use Rattle.std.specs.String.{string_bytes};
 ghost use Rattle.smv_io.specs.Causes.{Rose};
 ghost use Rattle.smv_io.specs.Transfers.{TookFront};
 ghost use Rattle.smv_look_command.specs.Queries.{query_of};
-ghost use Rattle.smv_look_run.specs.Dues.{Ends, Gave, number_of};
+ghost use Rattle.smv_look_run.specs.Dues.{Ends, Gave, number_of, refusal_text};
 
 mod answers;
 
@@ -23,6 +23,8 @@ use std::alloc::Global;
 pub enum Status {
     /// The lines were written.
     Written,
+    /// The warnings were written, of which there is at least one.
+    Warned,
     /// The unit has no case of the number that is asked for.
     NoCase,
     /// The text has a fault, or no unit has the name that was asked for.
@@ -44,6 +46,7 @@ impl Status {
     {
         match self {
             Status::Written => 0,
+            Status::Warned => 1,
             Status::NoCase => 1,
             Status::Refused => 3,
             Status::Usage => 4,
@@ -59,7 +62,10 @@ const LIMIT: usize = 1_048_576;
 
 const TOO_LONG: &[u8] = b"fault 31 at line 1 column 1\n";
 
-const USAGE: &[u8] = b"usage: smv_look list|cone NAME [CASE] < TEXT\n";
+const TOO_LONG_EXPLAINED: &[u8] =
+    b"fault 31 at line 1 column 1\n  | the text has more than 1,048,576 bytes\n";
+
+const USAGE: &[u8] = b"usage: smv_look list|cone NAME [CASE]|lint|explain < TEXT\n";
 
 /// Reads a text from the source, and writes what the words ask of it to the sink.
 ///
@@ -100,11 +106,23 @@ fn asked<S: Source, K: Sink>(alloc: Global, query: &Query, source: &mut S, sink:
     match read_all(alloc, source, LIMIT) {
         Err(ReadError::ReadFault) => Status::ReadFault,
         Err(ReadError::OutOfMemory) => Status::OutOfMemory,
-        Err(ReadError::TooLong) => finish(sink, TOO_LONG, Status::Refused),
+        Err(ReadError::TooLong) => finish(sink, too_long(query), Status::Refused),
         Ok(text) => match answer_to(alloc, query, &text) {
             Ok(due) => finish(sink, &due.bytes, due.status),
             Err(_) => Status::OutOfMemory,
         },
+    }
+}
+
+// The answer to a text that is too long.
+fn too_long(query: &Query) -> &'static [u8]
+    ensures { (text : List ℕ) → result.now ≡ refusal_text query.now text 31 0 }
+{
+    match query {
+        Query::List => TOO_LONG,
+        Query::Cone { name: _, case: _ } => TOO_LONG,
+        Query::Lint => TOO_LONG,
+        Query::Explain => TOO_LONG_EXPLAINED,
     }
 }
 

@@ -34,9 +34,41 @@ const ROWS_1: &[Row] = &[
         3,
         "fault 26 at line 1 column 1\n",
     ),
+    (
+        "lint",
+        "module main(car) {\n  input car : boolean;\n  light : {red, green};\n  seconds : 0..60;\n  walks, pressed : boolean;\n  init(light) := red;\n  init(seconds) := 61;\n  if (seconds > 0) next(seconds) := seconds - 1;\n  else switch (light) {\n    red : if (car) { next(light) := green; next(seconds) := {30, 60..90}; }\n    green : { next(light) := red; next(seconds) := 20; }\n  }\n  walks := light = red & pressed;\n  layer spec : { if (~car) next(light) := red; }\n}\n",
+        1,
+        "walks at line 5 column 3: nothing reads it and no map is about it; declare it as an output if that is meant\npressed at line 5 column 10: nothing outside layers assigns it, so it is free; declare it as an input if that is meant\nseconds at line 7 column 20: 61 is not in 0..60, so nothing is ruled out here\nseconds at line 10 column 66: 60..90 is not within 0..60, so nothing is ruled out here\n",
+    ),
 ];
 
 #[test]
 fn looks_are_those_of_the_pages_1(rt: HostRuntime) -> Result<(), Fail> {
     all_are_answered(rt.alloc(), ROWS_1)
+}
+
+const ROWS_2: &[Row] = &[
+    (
+        "lint",
+        "/* A bus arbiter for three clients with fixed priority: client 0 comes before 1, and 1 before 2. Who has the bus keeps it as\n   long as it asks; a bus that is free goes to the first that asks, at once.\n   `held` is the owner of the step before, by one bit for each client. The claims: the grants are disjoint (`alone`), no\n   client is granted that does not ask (`wanted`), the bus is not idle while somebody asks (`busy`), who has it keeps it\n   (`kept`), and it is not taken by a client while a more urgent one waits (`urgent`).\n   Nothing is promised to client 2: `priority_waits` shows how long it waits. */\nmodule main() {\n  asks, grant, held : array 0..2 of boolean;\n  free_bus : boolean;\n\n  free_bus := &[ ~(held[i] & asks[i]) : i in 0..2 ];\n  grant[0] := asks[0] & (held[0] | free_bus);\n  grant[1] := asks[1] & (held[1] | free_bus & ~asks[0]);\n  grant[2] := asks[2] & (held[2] | free_bus & ~asks[0] & ~asks[1]);\n  forall (i in 0..2) {\n    init(held[i]) := 0;\n    next(held[i]) := grant[i];\n  }\n\n  forall (i in 0..2) forall (j in 0..2) {\n    alone[i][j] : assert G (grant[i] & grant[j] -> i = j);\n    urgent[i][j] : assert G (i < j & asks[i] & grant[j] -> held[j]);\n  }\n  forall (i in 0..2) {\n    wanted[i] : assert G (grant[i] -> asks[i]);\n    kept[i] : assert G (held[i] & asks[i] -> grant[i]);\n  }\n  busy : assert G (|[ asks[i] : i in 0..2 ] -> |[ grant[i] : i in 0..2 ]);\n}\n",
+        1,
+        "asks at line 8 column 3: nothing outside layers assigns it, so it is free; declare it as an input if that is meant\n",
+    ),
+    (
+        "lint",
+        "/* A traffic light controller: a road with a lane from the north and one from the south, and a lane from the east that crosses\n   both. Each lane has a sensor and a light, which are a module. The two lanes of the road may be green together; the\n   crossing lane only alone, and behind each green of one road stands a step of red before the other one's. `turn` says\n   which road is next where both wait: not the one that was green last.\n   The environment is a module too: a car stays before a red light, and after at most four steps of green there is a gap.\n   Without it no bound could be promised to anybody: one lane could be green for ever.\n   Proved: lanes that cross are never green together, and no car waits more than twelve steps for its light (with eleven in\n   the place of twelve it is false: the south lane keeps the road green behind the north one, and then the crossing lane goes). */\nmodule lane(car, may_go, green, wants) {\n  input car, may_go : boolean;\n  output green, wants : boolean;\n  init(green) := 0;\n  next(green) := green ? car : car & may_go;\n  wants := car & ~green;\n}\n\n-- What comes along a lane.\nmodule traffic(green, car) {\n  input green : boolean;\n  output car : boolean;\n  passed : 0..3;\n  init(passed) := 0;\n  next(passed) := green & car & passed < 3 ? passed + 1 : 0;\n  next(car) := ~green & car ? 1 : green & passed = 3 ? 0 : {0, 1};\n}\n\nmodule main() {\n  north_car, south_car, east_car, north_green, south_green, east_green, north_wants, south_wants, east_wants : boolean;\n  road_may, east_may : boolean;\n  turn : {road, crossing};\n  north : lane(north_car, road_may, north_green, north_wants);\n  south : lane(south_car, road_may, south_green, south_wants);\n  east : lane(east_car, east_may, east_green, east_wants);\n  north_traffic : traffic(north_green, north_car);\n  south_traffic : traffic(south_green, south_car);\n  east_traffic : traffic(east_green, east_car);\n\n  road_may := ~east_green & (turn = road | ~east_wants);\n  east_may := ~north_green & ~south_green & (turn = crossing | ~north_wants & ~south_wants);\n  init(turn) := road;\n  if (east_green) next(turn) := road;\n  else if (north_green | south_green) next(turn) := crossing;\n\n  -- For how many steps the car before each light has waited.\n  abstract waited : array 0..2 of 0..15;\n  layer watch : {\n    forall (i in 0..2) init(waited[i]) := 0;\n    next(waited[0]) := north_wants ? waited[0] + 1 : 0;\n    next(waited[1]) := south_wants ? waited[1] + 1 : 0;\n    next(waited[2]) := east_wants ? waited[2] + 1 : 0;\n  }\n  no_crash : assert G ~(east_green & (north_green | south_green));\n  forall (i in 0..2) soon[i] : assert G (waited[i] <= 12);\n}\n",
+        0,
+        "",
+    ),
+    (
+        "explain",
+        "module main() {\n  ready : boolean;\n  ready := raedy;\n}\n",
+        3,
+        "fault 7 at line 3 column 12\n  |   ready := raedy;\n  |            ^ a name or a field is not declared\n",
+    ),
+];
+
+#[test]
+fn looks_are_those_of_the_pages_2(rt: HostRuntime) -> Result<(), Fail> {
+    all_are_answered(rt.alloc(), ROWS_2)
 }

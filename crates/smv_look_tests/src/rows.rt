@@ -54,13 +54,15 @@ const WHOLE: Streams = (None, 4000);
 
 const CLAIM: &str = "module main() { x : boolean; p : assert G x; }\n";
 
-const USAGE: &str = "usage: smv_look list|cone NAME [CASE] < TEXT\n";
+const USAGE: &str = "usage: smv_look list|cone NAME [CASE]|lint|explain < TEXT\n";
 
 const STREAM_ROWS: &[(Streams, Row)] = &[
     // Where the words ask for nothing the source is not asked.
     ((Some(0), 4000), ("", CLAIM, 4, USAGE)),
     ((Some(0), 4000), ("list p", CLAIM, 4, USAGE)),
     ((Some(0), 4000), ("cone", CLAIM, 4, USAGE)),
+    ((Some(0), 4000), ("lint p", CLAIM, 4, USAGE)),
+    ((Some(0), 4000), ("explain 7", CLAIM, 4, USAGE)),
     ((Some(0), 4000), ("cone p 0", CLAIM, 4, USAGE)),
     ((Some(0), 4000), ("cone p 4097", CLAIM, 4, USAGE)),
     ((Some(0), 4000), ("list", CLAIM, 5, "")),

@@ -18,7 +18,7 @@ pub returns-in-Err-TooLong-clause-ends : goal.returns-in-Err-TooLong-clause-ends
 returns-in-Err-TooLong-clause-ends g c =
     let text = given _ (λ t. limit < length t) (c.in-Err-TooLong.ensures.too_long (ap Err c.in-Err-TooLong.field-0-is)) (longer limit) in
     let f = c.finish.ensures in
-    (text.0, text.1, finished _ _ (Some c.args.query.now) text.0 _ _ _ (due_long c.args.query.now text.0 _ text.2 refl) f.taken f.front f.either)
+    (text.0, text.1, finished _ _ (Some c.args.query.now) text.0 _ _ _ (due_long c.args.query.now text.0 _ text.2 c.too_long.ensures) f.taken f.front f.either)
 
 pub returns-in-Ok-answer_to-clause-ends : goal.returns-in-Ok-answer_to-clause-ends
 returns-in-Ok-answer_to-clause-ends g c =

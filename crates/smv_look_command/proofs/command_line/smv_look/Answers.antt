@@ -16,5 +16,9 @@ pub returns : goal.returns
 returns c =
     let with_1 : app_of c.in_ok-subcommand.field-0 ≡ so_far (line.list ∷ []) =
     c.in_ok-subcommand.ensures.shape c.new.ensures.local ∙ ap₂ with_subcommand c.bare.ensures (ap top_of c.new.ensures.app) in
-    IfOk-weaker c.subcommand-2.result _ _ (λ command added. added.shape c.in_ok-cone.ensures.local ∙ ap₂ with_subcommand with_1 (ap top_of c.in_ok-cone.ensures.app))
-    c.subcommand-2.ensures
+    let with_2 : app_of c.in_ok-subcommand-2.field-0 ≡ so_far (line.list ∷ line.cone ∷ []) =
+    c.in_ok-subcommand-2.ensures.shape c.in_ok-cone.ensures.local ∙ ap₂ with_subcommand with_1 (ap top_of c.in_ok-cone.ensures.app) in
+    let with_3 : app_of c.in_ok-subcommand-3.field-0 ≡ so_far (line.list ∷ line.cone ∷ line.lint ∷ []) =
+    c.in_ok-subcommand-3.ensures.shape c.new-2.ensures.local ∙ ap₂ with_subcommand with_2 (ap top_of c.new-2.ensures.app) in
+    IfOk-weaker c.subcommand-4.result _ _ (λ command added. added.shape c.new-3.ensures.local ∙ ap₂ with_subcommand with_3 (ap top_of c.new-3.ensures.app))
+    c.subcommand-4.ensures

@@ -5,7 +5,7 @@ use Rattle.clap.specs.Matches.{found_of}
 use Rattle.clap.specs.Walk.{rows_of}
 use Rattle.smv_command.specs.Commands.{both}
 use Rattle.smv_look_command.specs.declared.queries.Query.TheVariants.{Cone}
-use Rattle.smv_look_command.proofs.ByName.{at_cone, at_list, given_to_cone, no_name}
+use Rattle.smv_look_command.proofs.ByName.{at_cone, at_explain, at_lint, at_list, given_to_cone, no_name}
 use Rattle.smv_look_command.proofs.words.named.Goals as goal
 
 pub returns-then-eq : goal.returns-then-eq
@@ -22,7 +22,15 @@ returns-in_ok-name c =
     at_cone c.args.word.now (rows_of (found_of c.args.matches.now)) (sym c.eq-else-eq.ensures ∙ c.if-eq-2.true)
     ∙ ap₂ (λ x y. option_map (λ p. Cone p.0 p.1) (both x y)) c.in_ok-name.ensures c.case_in-case.ensures
 
+pub returns-then-eq-3 : goal.returns-then-eq-3
+returns-then-eq-3 c = at_lint c.args.word.now (rows_of (found_of c.args.matches.now)) (sym c.eq-else-eq-2.ensures ∙ c.if-eq-3.true)
+
+pub returns-then-eq-4 : goal.returns-then-eq-4
+returns-then-eq-4 c = at_explain c.args.word.now (rows_of (found_of c.args.matches.now)) (sym c.eq-else-eq-3.ensures ∙ c.if-eq-4.true)
+
 pub unreachable-requires : goal.unreachable-requires
 unreachable-requires c =
-    let none = no_name c.args.word.now (rows_of (found_of c.args.matches.now)) (sym c.eq.ensures ∙ c.if-eq.false) (sym c.eq-else-eq.ensures ∙ c.if-eq-2.false) in
+    let none =
+    no_name c.args.word.now (rows_of (found_of c.args.matches.now)) (sym c.eq.ensures ∙ c.if-eq.false) (sym c.eq-else-eq.ensures ∙ c.if-eq-2.false) (sym c.eq-else-eq-2.ensures ∙ c.if-eq-3.false)
+    (sym c.eq-else-eq-3.ensures ∙ c.if-eq-4.false) in
     true≢false (sym (ap is_some (sym none) ∙ c.requires))

@@ -1,0 +1,7 @@
+pub mod KnownLaws
+pub mod Listing
+pub mod PartEquations
+pub mod PlaceEquations
+pub mod SortLaws
+pub mod StrayEquations
+pub mod TruthLaws

@@ -1,0 +1,54 @@
+//! Texts with what is warned of in them. The answers were written by hand.
+
+use crate::rows::{Row, all_are_answered};
+use std::test::Fail;
+
+const ROWS: &[Row] = &[
+    (
+        "lint",
+        "module main() {\n  x : 0..5;\n  y : 2..3;\n  init(x) := 7;\n  next(x) := y = 2 ? {0, 6} : x;\n  next(y) := {1..2, 3};\n  small : assert G x < 6;\n}\n",
+        1,
+        "x at line 4 column 14: 7 is not in 0..5, so nothing is ruled out here\nx at line 5 column 26: 6 is not in 0..5, so nothing is ruled out here\ny at line 6 column 15: 1..2 is not within 2..3, so nothing is ruled out here\n",
+    ),
+    (
+        "lint",
+        "module main() {\n  t : array 0..3 of 0..4;\n  for (i = 0; i <= 3; i = i + 1) init(t[i]) := i + 2;\n  u : 0..3;\n  next(u) := 1 - 2;\n  ok : assert G (t[0] < 5 & u < 4);\n}\n",
+        1,
+        "t at line 3 column 48: 5 is not in 0..4, so nothing is ruled out here\nu at line 5 column 14: this is below 0 or above 511, so nothing is ruled out here\n",
+    ),
+    (
+        "lint",
+        "module main() {\n  x : 0..7;\n  init(x) := 0;\n  next(x) := x = 9 ? {0, 7, 2..3, 300 mod 8} : x + 1;\n  ok : assert G (x + 300 < 308);\n}\n",
+        0,
+        "",
+    ),
+    (
+        "lint",
+        "module main(request, grant) {\n  input request : boolean;\n  output grant : boolean;\n  ready, idle : boolean;\n  grant := request & ready;\n  next(idle) := ~idle;\n}\n",
+        1,
+        "main at line 1 column 1: there is no claim and no map, so nothing is proved\nready at line 4 column 3: nothing outside layers assigns it, so it is free; declare it as an input if that is meant\nidle at line 4 column 10: nothing reads it and no map is about it; declare it as an output if that is meant\n",
+    ),
+    (
+        "lint",
+        "module main() {\n  x : boolean;\n  abstract want, old : boolean;\n  init(x) := 0;\n  next(x) := ~x;\n  layer spec : { x := want; }\n}\n",
+        1,
+        "want at line 3 column 12: no layer defines it, so it is free\nold at line 3 column 18: no layer defines it, so it is free\nold at line 3 column 18: nothing reads it and no map is about it\n",
+    ),
+    (
+        "lint",
+        "scalarset P undefined;\nmodule main() {\n  q : P;\n  a : array P of 0..9;\n  next(q) := q;\n  forall (i in P) next(a[i]) := 10;\n  forall (i in P) p[i] : assert G a[i] < 10;\n  forall (i in P) forall (j in P) subcase s[j] of p[i] for q = j;\n}\n",
+        1,
+        "a at line 6 column 33: 10 is not in 0..9, so nothing is ruled out here\n",
+    ),
+    (
+        "lint",
+        "module half(a, b) {\n  input a : boolean;\n  output b : boolean;\n  c : boolean;\n  b := c;\n}\nmodule main() {\n  x, y : boolean;\n  h : half(x, y);\n  next(x) := y;\n  p : assert G x;\n}\n",
+        1,
+        "h.a at line 2 column 9: nothing reads it and no map is about it\nh.c at line 4 column 3: nothing outside layers assigns it, so it is free; declare it as an input if that is meant\n",
+    ),
+];
+
+#[test]
+fn texts_are_warned_of(rt: HostRuntime) -> Result<(), Fail> {
+    all_are_answered(rt.alloc(), ROWS)
+}
