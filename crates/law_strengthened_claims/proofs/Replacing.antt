@@ -13,10 +13,10 @@ use Rattle.law_lexed_parts.proofs.Signs.{apart-behind}
 use Rattle.law_lexed_parts.proofs.Parts.{parts-read, apart-blank}
 use Rattle.law_spelled_alike.specs.Local.{kinds_of}
 use Rattle.law_spelled_alike.proofs.Combining.{kinds-append}
-use Rattle.law_induction.specs.Strengthened.{written}
-use Rattle.law_induction.specs.Replacement.{replacement, IsName, ReplacementIsSound}
-use Rattle.law_induction.proofs.Joined.{exchanged-sound}
-use Rattle.law_induction.proofs.Written.{written-spells}
+use Rattle.law_strengthened_claims.specs.Renaming.{IsName}
+use Rattle.law_strengthened_claims.specs.Replacement.{written, replacement, ReplacementIsSound}
+use Rattle.law_strengthened_claims.proofs.Joined.{exchanged-is, exchanged-sound}
+use Rattle.law_strengthened_claims.proofs.Written.{written-spells}
 
 -- bytes that are read as tokens of these kinds
 abbrev Reads : List ℕ → List TokenKind → Type 0
@@ -126,4 +126,4 @@ replaced n name var fresh set text x p is_var is_fresh is_set smaller ts d h k s
     let y = written-spells p.levels var fresh set ts p.tokens r.0 d p.body k p.spelled same r.2 in
     let b = replacement-apart var fresh set is_var is_fresh is_set smaller p.bytes (kinds_of ts) (kinds_of p.tokens) (ts, h, refl) (p.tokens, p.read, refl) p.after in
     let new = p.exchanged (replacement var fresh set smaller p.bytes) r.0 y.0 r.1 y.1 (ampersand-apart p.before _) b in
-    (new.0, new.1, new.2, new.3, λ inductive sound. exchanged-sound var fresh set name x new.1 p.body y.0 inductive p.own y.2 new.4 sound)
+    (new.0, new.1, new.2, new.3, exchanged-is var fresh set name x new.1 p.body y.0 p.own y.2 new.4, λ inductive sound. exchanged-sound var fresh set name x new.1 p.body y.0 inductive p.own y.2 new.4 sound)

@@ -4,7 +4,7 @@ use Rattle.smv_core.specs.declared.token.Token.{Token}
 use Rattle.smv_core.specs.declared.token.TokenKind.{TokenKind}
 use Rattle.smv_core.specs.declared.token.TokenKind.TheVariants.{Ident, Number, Sign, Reserved}
 use Rattle.smv_lex.specs.Lexing as l
-use Rattle.law_induction.proofs.worked.worked_bytes.Goals as goal
+use Rattle.law_strengthened_claims.proofs.worked.worked_bytes.Goals as goal
 
 pub returns-clause-written : goal.returns-clause-written
 returns-clause-written c = refl

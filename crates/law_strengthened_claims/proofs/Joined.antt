@@ -170,8 +170,12 @@ module _ (var fresh set name : Name) (body : Expr) where
   one-text : (x : Text) → IsWith is_main test x body x → placeless_text (changed_text is_main (put_in test (stronger var fresh set body)) x) ≡ placeless_text (stronger_text var fresh set name x)
   one-text x own = ap (λ l. record { tops = l }) (one-tops x.tops (ap (λ (t : Text). t.tops) own))
 
+-- what is spelled with the strengthened expression in place of the claim's is the strengthened tree, places aside
+pub exchanged-is : (var fresh set name : Name) (x new : Text) (body y : Expr) → IsWith is_main (is_named name) x body x → placeless y ≡ placeless (stronger var fresh set body) → IsWith is_main (is_named name) x y new →
+    placeless_text (stronger_text var fresh set name x) ≡ placeless_text new
+exchanged-is var fresh set name x new body y own same put = sym (one-text var fresh set name body x own) ∙ sym (put-text is_main (is_named name) y (stronger var fresh set body) same x) ∙ put
+
 pub exchanged-sound : (var fresh set name : Name) (x new : Text) (body y : Expr) → AreInductiveTops var fresh set name (types_from [] x.tops) x.tops → IsWith is_main (is_named name) x body x →
     placeless y ≡ placeless (stronger var fresh set body) → IsWith is_main (is_named name) x y new → IsSound new → IsSound x
 exchanged-sound var fresh set name x new body y inductive own same put h =
-    let is : placeless_text (stronger_text var fresh set name x) ≡ placeless_text new = sym (one-text var fresh set name body x own) ∙ sym (put-text is_main (is_named name) y (stronger var fresh set body) same x) ∙ put in
-    sound var fresh set name x inductive (sound-alike new (stronger_text var fresh set name x) (sym is) h)
+    sound var fresh set name x inductive (sound-alike new (stronger_text var fresh set name x) (sym (exchanged-is var fresh set name x new body y own same put)) h)

@@ -19,8 +19,9 @@ use Rattle.law_spelled_alike.proofs.Combining.{kinds-append}
 use Rattle.law_spelled_alike.proofs.Alike.{spelled-alike}
 use Rattle.law_exchanged.proofs.Before.{spelled-before, more-levels}
 use Rattle.law_induction.specs.Renamed.{renamed}
-use Rattle.law_induction.specs.Strengthened.{word_of, variable, stronger, written}
-use Rattle.law_induction.proofs.Joined.{strong, placeless-put, placeless-stronger}
+use Rattle.law_induction.specs.Strengthened.{word_of, variable, stronger}
+use Rattle.law_strengthened_claims.specs.Replacement.{written}
+use Rattle.law_strengthened_claims.proofs.Joined.{strong, placeless-put, placeless-stronger}
 
 abbrev zeros : ℕ → ℕ
 zeros at = 0

@@ -1,0 +1,5 @@
+pub mod Joined
+pub mod Written
+pub mod Replacing
+pub mod RenamedForms
+pub mod RenamedTokens
