@@ -3,3 +3,4 @@ pub mod Written
 pub mod Replacing
 pub mod RenamedForms
 pub mod RenamedTokens
+pub mod RenamedBytes
