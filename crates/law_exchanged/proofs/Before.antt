@@ -10,7 +10,7 @@ use Rattle.law_grammar.proofs.Expressions.{At, expressions, expr-begins}
 use Rattle.law_grammar.proofs.One.{all-read}
 use Rattle.law_places.specs.Placeless.{placeless}
 use Rattle.law_spelled_alike.specs.Local.{kinds_of}
-use Rattle.law_spelled_alike.proofs.Expressions.{local-expression}
+use Rattle.law_spelled_alike.proofs.Plain.{same-expression}
 
 -- these tokens spell the expression, and those come after it
 abbrev pub SpellsUpTo : ℕ → Tokens → Expr → Tokens → Type 0
@@ -28,7 +28,7 @@ more-levels n m le ts x h = subst (λ z. g.expr_rule (λ at. 0) m (g.below (λ a
 -- what is spelled before some tokens is spelled alone, places aside
 pub spelled-alone : (n : ℕ) (ts behind : Tokens) (x : Expr) → SpellsUpTo n ts x behind → (y : Expr) × SpellsExpr n ts y × (placeless x ≡ placeless y)
 spelled-alone n ts behind x h =
-    let u = local-expression (λ k. Unit {0}) (λ k q. tt) n n (omega arith) (ts ++ behind) x behind h in
+    let u = same-expression (λ k. Unit {0}) (λ k q. tt) n n (omega arith) (ts ++ behind) x behind h in
     let same : ts ≡ u.front = append_cancel_right ts u.front behind u.split in
     let v = u.again ts [] (ap kinds_of same) in
     (v.0, subst (λ z. g.expr_rule (λ at. 0) n (g.below (λ at. 0) n) z v.0 []) (append-nil ts) v.1, v.2)

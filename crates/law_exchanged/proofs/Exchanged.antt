@@ -52,6 +52,10 @@ module _ (n gap : ℕ) (within test : Word → Bool) (ts : Tokens) (x : Text) (h
     middle = v.es;
     behind = v.behind;
     split = split;
+    word = v.word;
+    chosen = v.chosen;
+    headed = v.headed;
+    closed = v.closed;
     levels = v.levels;
     body = alone.0;
     spelled = alone.1;

@@ -1,7 +1,11 @@
 -- One claim's expression exchanged for another in the tokens of an item.
-use Rattle.std.proofs.Common.{◌≡◌, ◌≤◌, ◌+◌, ◌⊎◌, inl, inr, ⊎_elim, ℕ, zero, suc, List, [], ◌∷◌, ◌++◌, map, Bool, true, false, if◌then◌else◌, refl, sym, ap, ◌∙◌, subst, append_assoc, arith}
+use Rattle.std.proofs.Common.{◌≡◌, ◌≤◌, ◌+◌, ◌⊎◌, inl, inr, ⊎_elim, ℕ, zero, suc, List, [], ◌∷◌, ◌++◌, map, Option, Some, None, Bool, true, false, if◌then◌else◌, refl, sym, ap, ◌∙◌, subst, append_assoc, arith}
 use Rattle.std.proofs.lemmas.List.{append_cancel_right}
+use Rattle.std.proofs.lemmas.Bool.{eqb-true}
 use Rattle.std.specs.List.{AllZip}
+use Rattle.smv_core.specs.declared.token.Token.{Token}
+use Rattle.smv_core.specs.declared.token.TokenKind.{TokenKind}
+use Rattle.smv_core.specs.declared.token.TokenKind.TheVariants.{Ident, Number, Sign, Reserved}
 use Rattle.smv_core.specs.declared.tree.Word.{Word}
 use Rattle.smv_core.specs.declared.tree.TypeExpr.{TypeExpr}
 use Rattle.smv_core.specs.declared.tree.Expr.{Expr}
@@ -10,20 +14,79 @@ use Rattle.smv_core.specs.declared.tree.Item.{Item, Declare, Instance, Layer, Fo
 use Rattle.smv_core.specs.declared.tree.Item.TheVariants as item
 use Rattle.smv_core.specs.declared.tree.Top.{Top}
 use Rattle.smv_core.specs.declared.tree.Top.TheVariants.{SetType, Alias, Module}
-use Rattle.smv_core.specs.Signs.{open_paren, close_paren, open_brace, close_brace, colon, semicolon}
+use Rattle.smv_core.specs.Signs.{open_paren, close_paren, open_bracket, close_bracket, open_brace, close_brace, colon, semicolon}
 use Rattle.smv_core.specs.Signs as w
-use Rattle.smv_core.specs.Notation.{Tokens, Rule, nothing, ◌>>=◌, ◌>>◌, many, token, name}
+use Rattle.smv_core.specs.Notation.{Tokens, Rule, nothing, ◌>>=◌, ◌>>◌, many, token, name, name_of, same_kind}
 use Rattle.smv_core.specs.Grammar as g
 use Rattle.smv_core.specs.Grammar.{Rules}
 use Rattle.law_places.specs.Placeless.{placeless_word, placeless_item, placeless_top}
 use Rattle.law_spelled_alike.specs.Local.{kinds_of, Taken, IsLocal, Any, SameName}
+use Rattle.law_exchanged.specs.Claims.{IsHeaded, IsClosed}
 use Rattle.law_exchanged.specs.Changed.{changed_item, changed_items, count_item, count_items, count_list, put_in, changed_top, count_top, count_tops}
-use Rattle.law_spelled_alike.proofs.Combining.{cut, local-nothing, local-token, local-many, local-after, local-opener}
-use Rattle.law_spelled_alike.proofs.Expressions.{SameExpr}
+use Rattle.law_spelled_alike.proofs.Combining.{all-append, cut, same_kinds, local-nothing, local-then, local-token, local-name, local-many, local-after, local-opener, local-open}
+use Rattle.law_spelled_alike.proofs.Plain.{SameExpr}
 use Rattle.smv_core.specs.declared.tree.Item.{items-the_row-Item, items_hidden-the_row-Item-1}
-use Rattle.law_spelled_alike.proofs.PlacelessStatements.{computing, items-list, items_in, placeless-item_Block}
-use Rattle.law_spelled_alike.proofs.Texts as t
-use Rattle.law_spelled_alike.proofs.Texts.{T, free, names, SameBinder, SameItem, SameTop}
+use Rattle.law_texts_spelled_alike.proofs.PlacelessStatements.{computing, items-list, items_in, placeless-item_Block}
+use Rattle.law_texts_spelled_alike.proofs.Texts as t
+use Rattle.law_texts_spelled_alike.proofs.Texts.{T, all, free, names, SameBinder, SameItem, SameTop}
+
+-- ---- single tokens
+
+-- a sign or word that is like another than `G` is no `G`
+no_G : (k : TokenKind) → same_kind k w.word_G ≡ false → (j : TokenKind) → same_kind j k ≡ true → same_kind j w.word_G ≡ false
+no_G (Sign i) h (Sign j) e = refl
+no_G (Reserved i) h (Reserved j) e = rw (eqb-true j i e) h
+no_G (Reserved i) h (Sign j) e = refl
+no_G (Sign i) h (Reserved j) e = absurd (cc)
+no_G k h (Ident bytes) e = refl
+no_G k h (Number n) e = refl
+no_G (Ident bytes) h (Sign j) e = refl
+no_G (Number n) h (Sign j) e = refl
+no_G (Ident bytes) h (Reserved j) e = absurd (cc)
+no_G (Number n) h (Reserved j) e = absurd (cc)
+
+token-is : (k : TokenKind) (ts : Tokens) (at : ℕ) (rest : Tokens) → token k ts at rest → (t : Token) × (ts ≡ t ∷ rest) × (same_kind t.kind k ≡ true)
+token-is k [] at rest h = absurd h
+token-is k (t ∷ ts) at rest h = (t, ap (λ l. t ∷ l) h.1, by_test (same_kind t.kind k) h.0)
+  where
+    by_test : (b : Bool) → (if b then Some t.at else None) ≡ Some at → b ≡ true
+    by_test true e = refl
+    by_test false e = absurd (cc (e))
+
+name-is : (ts : Tokens) (x : Word) (rest : Tokens) → name ts x rest → (t : Token) × (ts ≡ t ∷ rest) × (t.at ≡ x.at) × (same_kind t.kind w.word_G ≡ false)
+name-is [] x rest h = absurd h
+name-is (t ∷ ts) x rest h = (t, ap (λ l. t ∷ l) h.1, by_kind t.kind h.0, no_word t.kind h.0)
+  where
+    by_kind : (k : TokenKind) → name_of t.at k ≡ Some x → t.at ≡ x.at
+    by_kind (Ident bytes) e = ap (λ (o : Option Word). place o) e
+      where
+        place : Option Word → ℕ
+        place None = t.at
+        place (Some word) = word.at
+    by_kind (Number n) e = absurd (cc (e))
+    by_kind (Sign i) e = absurd (cc (e))
+    by_kind (Reserved i) e = absurd (cc (e))
+
+    no_word : (k : TokenKind) → name_of t.at k ≡ Some x → same_kind k w.word_G ≡ false
+    no_word (Ident bytes) e = refl
+    no_word (Number n) e = absurd (cc (e))
+    no_word (Sign i) e = absurd (cc (e))
+    no_word (Reserved i) e = absurd (cc (e))
+
+headed-more : (word : Word) (xs ys : Tokens) → IsHeaded word ys → IsHeaded word (xs ++ ys)
+headed-more word xs ys h = record {
+  lead = xs ++ h.lead;
+  name = h.name;
+  head = h.head;
+  last = h.last;
+  split = ap (λ l. xs ++ l) h.split ∙ sym (append_assoc xs h.lead (h.name ∷ h.head ++ (h.last ∷ [])));
+  place = h.place;
+  no_G = h.no_G;
+  is_G = h.is_G;
+}
+
+closed-more : (xs ys : Tokens) → IsClosed xs → IsClosed (xs ++ ys)
+closed-more xs ys (t, more, e, k) = (t, more ++ ys, ap (λ l. l ++ ys) e, k)
 
 module _ (test : Word → Bool) (gap : ℕ) where
   abbrev pub z : ℕ → ℕ
@@ -31,7 +94,8 @@ module _ (test : Word → Bool) (gap : ℕ) where
 
   -- The tokens of the expression of a claim that passes the test stand in the middle of those that spell the value. Tokens of the same kinds around others that spell
   -- an expression, within more levels by the gap, spell a value in which that expression stands in its place.
-  pub record Pierced {X A B : Type 0} (S : Expr → A → B → Type 0) (r : X → Rule B) (ts : Tokens) (a : A) (rest : Tokens) : Type 0 where
+  -- Of the tokens before that expression something is known.
+  pub record PiercedBy {X A B : Type 0} (Q : Word → Tokens → Type 0) (S : Expr → A → B → Type 0) (r : X → Rule B) (ts : Tokens) (a : A) (rest : Tokens) : Type 0 where
     pub front : Tokens
     pub es : Tokens
     pub behind : Tokens
@@ -39,6 +103,8 @@ module _ (test : Word → Bool) (gap : ℕ) where
     pub word : Word
     pub body : Expr
     pub chosen : test word ≡ true
+    pub headed : Q word front
+    pub closed : IsClosed behind
     pub levels : ℕ
     pub more_levels : ℕ
     pub apart : more_levels ≡ levels + gap
@@ -46,9 +112,13 @@ module _ (test : Word → Bool) (gap : ℕ) where
     pub again : (x : X) (us vs ws more : Tokens) → kinds_of us ≡ kinds_of front → kinds_of ws ≡ kinds_of behind → (y : Expr) → ((q : Tokens) → g.expr_rule z more_levels (g.below z more_levels) (vs ++ q) y q) →
         (b : B) × r x (us ++ (vs ++ (ws ++ more))) b more × S y a b
 
-  pub pierce-prefix : {X A B C D : Type 0} (R : A → B → Type 0) (S : Expr → C → D → Type 0) (r : Rule A) (r' : Rule B) (s' : X → B → Rule D) → IsLocal T R r r' → (ts : Tokens) (a : A) (middle : Tokens) → r ts a middle → (c : C) (rest : Tokens) →
-      Pierced {X = X × ((b : B) × R a b)} S (λ x. s' x.0 x.1.0) middle c rest → Pierced {X = X} S (λ x. r' >>= s' x) ts c rest
-  pierce-prefix R S r r' s' f ts a middle p c rest v =
+  -- the tokens before it end with the claim's head
+  abbrev pub Pierced : {X A B : Type 0} → (Expr → A → B → Type 0) → (X → Rule B) → Tokens → A → Tokens → Type 0
+  Pierced {X} {A} {B} S r ts a rest = PiercedBy {X = X} {A = A} {B = B} IsHeaded S r ts a rest
+
+  prefix-by : {X A B C D : Type 0} (Q : Word → Tokens → Type 0) → ((word : Word) (xs ys : Tokens) → Q word ys → Q word (xs ++ ys)) → (R : A → B → Type 0) (S : Expr → C → D → Type 0) (r : Rule A) (r' : Rule B) (s' : X → B → Rule D) → IsLocal T R r r' → (ts : Tokens) (a : A) (middle : Tokens) → r ts a middle → (c : C) (rest : Tokens) →
+      PiercedBy {X = X × ((b : B) × R a b)} Q S (λ x. s' x.0 x.1.0) middle c rest → PiercedBy {X = X} Q S (λ x. r' >>= s' x) ts c rest
+  prefix-by Q longer R S r r' s' f ts a middle p c rest v =
       let u = f ts a middle p in
       record {
         front = u.front ++ v.front;
@@ -58,6 +128,8 @@ module _ (test : Word → Bool) (gap : ℕ) where
         word = v.word;
         body = v.body;
         chosen = v.chosen;
+        headed = longer v.word u.front v.front v.headed;
+        closed = v.closed;
         levels = v.levels;
         more_levels = v.more_levels;
         apart = v.apart;
@@ -68,6 +140,10 @@ module _ (test : Word → Bool) (gap : ℕ) where
             let k = v.again (x, (b.0, b.2)) i.right vs ws more i.second d y q in
             (k.0, (b.0, i.right ++ (vs ++ (ws ++ more)), subst (λ l. r' l b.0 (i.right ++ (vs ++ (ws ++ more)))) (sym (append_assoc i.left i.right (vs ++ (ws ++ more))) ∙ ap (λ l. l ++ (vs ++ (ws ++ more))) (sym i.split)) b.1, k.1), k.2);
       }
+
+  pub pierce-prefix : {X A B C D : Type 0} (R : A → B → Type 0) (S : Expr → C → D → Type 0) (r : Rule A) (r' : Rule B) (s' : X → B → Rule D) → IsLocal T R r r' → (ts : Tokens) (a : A) (middle : Tokens) → r ts a middle → (c : C) (rest : Tokens) →
+      Pierced {X = X × ((b : B) × R a b)} S (λ x. s' x.0 x.1.0) middle c rest → Pierced {X = X} S (λ x. r' >>= s' x) ts c rest
+  pierce-prefix R S r r' s' f ts a middle p c rest v = prefix-by IsHeaded headed-more R S r r' s' f ts a middle p c rest v
 
   pub pierce-suffix : {X A B C D : Type 0} (S : Expr → A → B → Type 0) (S' : Expr → C → D → Type 0) (r' : X → Rule B) (s : A → Rule C) (s' : X → B → Rule D) → ((a : A) → IsLocal T (λ (c c' : C). Unit {0}) (s a) (s a)) →
       ((x : X) (y : Expr) (a : A) (b : B) → S y a b → IsLocal T (S' y) (s a) (s' x b)) → (ts : Tokens) (a : A) (middle : Tokens) → Pierced {X = X} S r' ts a middle → (c : C) (rest : Tokens) → s a middle c rest → Pierced {X = X} S' (λ x. r' x >>= s' x) ts c rest
@@ -82,6 +158,8 @@ module _ (test : Word → Bool) (gap : ℕ) where
         word = v.word;
         body = v.body;
         chosen = v.chosen;
+        headed = v.headed;
+        closed = closed-more v.behind u.front v.closed;
         levels = v.levels;
         more_levels = v.more_levels;
         apart = v.apart;
@@ -149,7 +227,7 @@ module _ (test : Word → Bool) (gap : ℕ) where
   pierce-many q q' local pierce ts (a ∷ xs) rest (middle, p, r) e = ⊎_elim here (λ c. there c (pierce-many q q' local pierce middle xs rest r c.1)) (one-or-other (count_item test a) (count_list test xs) e)
     where
       u : Taken T (AllZip SameItem) (many q') middle xs rest
-      u = local-many T SameItem q q' local middle xs rest r
+      u = local-many all SameItem q q' local middle xs rest r
 
       here : (count_item test a ≡ 1) × (count_list test xs ≡ 0) → Pierced {X = Unit {0}} PutItems (λ _. many q') ts (a ∷ xs) rest
       here c =
@@ -163,6 +241,8 @@ module _ (test : Word → Bool) (gap : ℕ) where
             word = v.word;
             body = v.body;
             chosen = v.chosen;
+            headed = v.headed;
+            closed = closed-more v.behind u.front v.closed;
             levels = v.levels;
             more_levels = v.more_levels;
             apart = v.apart;
@@ -188,6 +268,8 @@ module _ (test : Word → Bool) (gap : ℕ) where
             word = v.word;
             body = v.body;
             chosen = v.chosen;
+            headed = headed-more v.word h.front v.front v.headed;
+            closed = v.closed;
             levels = v.levels;
             more_levels = v.more_levels;
             apart = v.apart;
@@ -275,6 +357,8 @@ module _ (test : Word → Bool) (gap : ℕ) where
     word = v.word;
     body = v.body;
     chosen = v.chosen;
+    headed = v.headed;
+    closed = v.closed;
     levels = v.levels;
     more_levels = v.more_levels;
     apart = v.apart;
@@ -291,12 +375,22 @@ module _ (test : Word → Bool) (gap : ℕ) where
     word = v.word;
     body = v.body;
     chosen = v.chosen;
+    headed = v.headed;
+    closed = v.closed;
     levels = v.levels;
     more_levels = v.more_levels;
     apart = v.apart;
     spelled = v.spelled;
     again = λ x us vs ws more e d y k. let b = v.again x us vs ws more e d y k in (b.0, f x (us ++ (vs ++ (ws ++ more))) b.0 more b.1, b.2);
   }
+
+  -- no token is `G`
+  abbrev NotG : TokenKind → Type 0
+  NotG k = same_kind k w.word_G ≡ false
+
+  brackets-local : (n : ℕ) (inner : Rules) → IsLocal NotG SameName (g.in_brackets z n inner) (g.in_brackets z n inner)
+  brackets-local n inner = local-open (same_kinds NotG) SameName n n (omega arith) open_bracket (no_G open_bracket refl) _ _
+      (local-then (same_kinds NotG) SameName SameName name name _ _ (local-name (same_kinds NotG) (λ bytes. refl)) (λ x y p. local-after (same_kinds NotG) SameName close_bracket (no_G close_bracket refl) _ _ (local-nothing (same_kinds NotG) SameName x y p)))
 
   module _ (n m : ℕ) (apart : m ≡ n + gap) where
     abbrev inner : Rules
@@ -314,7 +408,7 @@ module _ (test : Word → Bool) (gap : ℕ) where
     -- behind the `G` of a claim
     core : {X : Type 0} (x : Word) (vars : List Word) (nm : X → Word) (vs : X → List Word) → ((k : X) → x.name ≡ (nm k).name) → ((k : X) → AllZip SameName vars (vs k)) → (ts : Tokens) (a : Item) (rest : Tokens) →
         (g.expr_rule z n inner >>= λ body. token semicolon >> nothing (item.Claim x vars body x.at)) ts a rest → count_item test a ≡ 1 →
-        Pierced {X = X} PutItem (λ k. g.expr_rule z m other >>= λ body. token semicolon >> nothing (item.Claim (nm k) (vs k) body (nm k).at)) ts a rest
+        PiercedBy {X = X} (λ word front. Unit {0}) PutItem (λ k. g.expr_rule z m other >>= λ body. token semicolon >> nothing (item.Claim (nm k) (vs k) body (nm k).at)) ts a rest
     core {X} x vars nm vs same sames ts a rest (body, mid, p, (at, mid2, q, (eq, r))) e = record {
       front = [];
       es = u.front;
@@ -323,6 +417,8 @@ module _ (test : Word → Bool) (gap : ℕ) where
       word = x;
       body = body;
       chosen = chosen;
+      headed = tt;
+      closed = let s = token-is semicolon mid at mid2 q in (s.0, [], append_cancel_right v.front (s.0 ∷ []) mid2 (sym v.split ∙ s.1), s.2);
       levels = n;
       more_levels = m;
       apart = apart;
@@ -334,7 +430,7 @@ module _ (test : Word → Bool) (gap : ℕ) where
         u = t.local-expr n m le inner other l ts body mid p
 
         v : Taken T Any (token semicolon) mid at mid2
-        v = local-token T semicolon (free semicolon) mid at mid2 q
+        v = local-token all semicolon (free semicolon) mid at mid2 q
 
         whole : mid ≡ v.front ++ rest
         whole = v.split ∙ ap (λ o. v.front ++ o) r
@@ -352,14 +448,82 @@ module _ (test : Word → Bool) (gap : ℕ) where
             )
         again k (s ∷ us) ws ys more c d y f = absurd (cc)
 
+    -- a claim, with its head
+    module _ (ts : Tokens) (a : Item) (rest : Tokens) (x : Word) (m0 : Tokens) (p0 : name ts x m0) (vars : List Word) (m1 : Tokens) (p1 : many (g.in_brackets z n inner) m0 vars m1) (c : ℕ) (m2 : Tokens) (p2 : token colon m1 c m2) (s : ℕ) (m3 : Tokens) (p3 : token w.word_assert m2 s m3) (h : ℕ) (m4 : Tokens) (p4 : token w.word_G m3 h m4)
+        (tail : (g.expr_rule z n inner >>= λ body. token semicolon >> nothing (item.Claim x vars body x.at)) m4 a rest) (e : count_item test a ≡ 1) where
+      abbrev free_front : Word → Tokens → Type 0
+      free_front word front = Unit {0}
+
+      longer : (word : Word) (xs ys : Tokens) → free_front word ys → free_front word (xs ++ ys)
+      longer word xs ys k = tt
+
+      abbrev Heads : Type 0
+      Heads = ((((Unit {0} × ((b : Word) × SameName x b)) × ((b : List Word) × AllZip SameName vars b)) × ((b : ℕ) × Any c b)) × ((b : ℕ) × Any s b)) × ((b : ℕ) × Any h b)
+
+      abbrev name_in : Heads → Word
+      name_in k = k.0.0.0.0.1.0
+
+      abbrev vars_in : Heads → List Word
+      vars_in k = k.0.0.0.1.0
+
+      abbrev v5 : PiercedBy {X = Heads} free_front PutItem (λ k. g.expr_rule z m other >>= λ body. token semicolon >> nothing (item.Claim (name_in k) (vars_in k) body (name_in k).at)) m4 a rest
+      v5 = core {X = Heads} x vars name_in vars_in (λ k. k.0.0.0.0.1.1) (λ k. k.0.0.0.1.1) m4 a rest tail e
+
+      abbrev v : PiercedBy {X = Unit {0}} free_front PutItem (λ _. g.claim z m other) ts a rest
+      v =
+          prefix-by free_front longer SameName PutItem name name _ names ts x m0 p0 a rest
+          (prefix-by free_front longer (AllZip SameName) PutItem (many (g.in_brackets z n inner)) (many (g.in_brackets z m other)) _ (local-many all SameName _ _ (t.local-in_brackets n m le inner other l)) m0 vars m1 p1 a rest
+          (prefix-by free_front longer Any PutItem (token colon) (token colon) _ (local-token all colon (free colon)) m1 c m2 p2 a rest
+          (prefix-by free_front longer Any PutItem (token w.word_assert) (token w.word_assert) _ (local-token all w.word_assert (free w.word_assert)) m2 s m3 p3 a rest
+          (prefix-by free_front longer Any PutItem (token w.word_G) (token w.word_G) _ (local-token all w.word_G (free w.word_G)) m3 h m4 p4 a rest v5))))
+
+      brackets : Taken NotG (AllZip SameName) (many (g.in_brackets z n inner)) m0 vars m1
+      brackets = local-many (same_kinds NotG) SameName _ _ (brackets-local n inner) m0 vars m1 p1
+
+      headed : IsHeaded x v.front
+      unfolding prefix-by core
+      headed =
+          let t0 = name-is ts x m0 p0 in
+          let t1 = token-is colon m1 c m2 p2 in
+          let t2 = token-is w.word_assert m2 s m3 p3 in
+          let t3 = token-is w.word_G m3 h m4 p4 in
+          let tail_is : m1 ≡ t1.0 ∷ t2.0 ∷ t3.0 ∷ m4 = t1.1 ∙ ap (λ l. t1.0 ∷ l) (t2.1 ∙ ap (λ l. t2.0 ∷ l) t3.1) in
+          let whole : ts ≡ t0.0 ∷ brackets.front ++ (t1.0 ∷ t2.0 ∷ t3.0 ∷ m4) = t0.1 ∙ ap (λ l. t0.0 ∷ l) (brackets.split ∙ ap (λ l. brackets.front ++ l) tail_is) in
+          let own : Tokens = t0.0 ∷ (brackets.front ++ (t1.0 ∷ t2.0 ∷ [])) ++ (t3.0 ∷ []) in
+          let parted : own ++ m4 ≡ ts = ap (λ l. t0.0 ∷ l) (append_assoc (brackets.front ++ (t1.0 ∷ t2.0 ∷ [])) (t3.0 ∷ []) m4 ∙ append_assoc brackets.front (t1.0 ∷ t2.0 ∷ []) (t3.0 ∷ m4)) ∙ sym whole in
+          record {
+            lead = [];
+            name = t0.0;
+            head = brackets.front ++ (t1.0 ∷ t2.0 ∷ []);
+            last = t3.0;
+            split = append_cancel_right v.front own m4 (ap (λ l. v.front ++ l) v5.split ∙ sym v.split ∙ sym parted);
+            place = t0.2;
+            no_G = (t0.3, all-append NotG brackets.front (t1.0 ∷ t2.0 ∷ []) brackets.each (no_G colon refl t1.0.kind t1.2, (no_G w.word_assert refl t2.0.kind t2.2, tt)));
+            is_G = t3.2;
+          }
+
+      claim-of : Pierced {X = Unit {0}} PutItem (λ _. g.claim z m other) ts a rest
+      unfolding prefix-by core
+      claim-of =
+          record {
+            front = v.front;
+            es = v.es;
+            behind = v.behind;
+            split = v.split;
+            word = v.word;
+            body = v.body;
+            chosen = v.chosen;
+            headed = headed;
+            closed = v.closed;
+            levels = v.levels;
+            more_levels = v.more_levels;
+            apart = v.apart;
+            spelled = v.spelled;
+            again = v.again;
+          }
+
     pierced-claim : (ts : Tokens) (a : Item) (rest : Tokens) → g.claim z n inner ts a rest → count_item test a ≡ 1 → Pierced {X = Unit {0}} PutItem (λ _. g.claim z m other) ts a rest
-    pierced-claim ts a rest (x, m0, p0, (vars, m1, p1, (c, m2, p2, (s, m3, p3, (h, m4, p4, tail))))) e =
-        pierce-prefix SameName PutItem name name _ names ts x m0 p0 a rest
-        (pierce-prefix (AllZip SameName) PutItem (many (g.in_brackets z n inner)) (many (g.in_brackets z m other)) _ (local-many T SameName _ _ (t.local-in_brackets n m le inner other l)) m0 vars m1 p1 a rest
-        (pierce-prefix Any PutItem (token colon) (token colon) _ (local-token T colon (free colon)) m1 c m2 p2 a rest
-        (pierce-prefix Any PutItem (token w.word_assert) (token w.word_assert) _ (local-token T w.word_assert (free w.word_assert)) m2 s m3 p3 a rest
-        (pierce-prefix Any PutItem (token w.word_G) (token w.word_G) _ (local-token T w.word_G (free w.word_G)) m3 h m4 p4 a rest
-        (core x vars (λ k. k.0.0.0.0.1.0) (λ k. k.0.0.0.1.0) (λ k. k.0.0.0.0.1.1) (λ k. k.0.0.0.1.1) m4 a rest tail e)))))
+    pierced-claim ts a rest (x, m0, p0, (vars, m1, p1, (c, m2, p2, (s, m3, p3, (h, m4, p4, tail))))) e = claim-of ts a rest x m0 p0 vars m1 p1 c m2 p2 s m3 p3 h m4 p4 tail e
 
     abbrev IsDeeper : Type 0
     IsDeeper = (ts : Tokens) (a : Item) (rest : Tokens) → inner.item ts a rest → count_item test a ≡ 1 → Pierced {X = Unit {0}} PutItem (λ _. other.item) ts a rest
@@ -368,11 +532,11 @@ module _ (test : Word → Bool) (gap : ℕ) where
       pierced-forall : (ts : Tokens) (a : Item) (rest : Tokens) → (g.opening z n inner w.word_forall >>= λ at. inner.binder >>= λ b. inner.item >>= λ body. nothing (item.Forall b.0 b.1 body at)) ts a rest → count_item test a ≡ 1 →
           Pierced {X = Unit {0}} PutItem (λ _. g.opening z m other w.word_forall >>= λ at. other.binder >>= λ b. other.item >>= λ body. nothing (item.Forall b.0 b.1 body at)) ts a rest
       pierced-forall ts a rest (at, m0, p0, (b, m1, p1, (body, m2, p2, (eq, r)))) e =
-          pierce-prefix Any PutItem _ _ _ (local-opener T n m le w.word_forall (free w.word_forall)) ts at m0 p0 a rest
+          pierce-prefix Any PutItem _ _ _ (local-opener all n m le w.word_forall (free w.word_forall)) ts at m0 p0 a rest
           (pierce-prefix SameBinder PutItem inner.binder other.binder _ l.binder m0 b m1 p1 a rest
           (pierce-suffix PutItem PutItem (λ _. other.item) (λ body. nothing (item.Forall b.0 b.1 body at)) (λ k body. nothing (item.Forall k.1.0.0 k.1.0.1 body k.0.1.0))
-          (λ x. local-nothing T (λ (c c' : Item). Unit {0}) (item.Forall b.0 b.1 x at) (item.Forall b.0 b.1 x at) tt)
-          (λ k y x d h. local-nothing T (PutItem y) (item.Forall b.0 b.1 x at) (item.Forall k.1.0.0 k.1.0.1 d k.0.1.0) (same y b k.1.0 x d at k.0.1.0 k.1.1 h))
+          (λ x. local-nothing all (λ (c c' : Item). Unit {0}) (item.Forall b.0 b.1 x at) (item.Forall b.0 b.1 x at) tt)
+          (λ k y x d h. local-nothing all (PutItem y) (item.Forall b.0 b.1 x at) (item.Forall k.1.0.0 k.1.0.1 d k.0.1.0) (same y b k.1.0 x d at k.0.1.0 k.1.1 h))
           m1 body m2 (pierce-lift PutItem other.item m1 body m2 (deeper m1 body m2 p2 one)) a rest (eq, r)))
         where
           one : count_item test body ≡ 1
@@ -388,10 +552,10 @@ module _ (test : Word → Bool) (gap : ℕ) where
       pierced-block : (ts : Tokens) (a : Item) (rest : Tokens) → (g.opening z n inner open_brace >> many inner.item >>= λ items. token close_brace >> nothing (item.Block items)) ts a rest → count_item test a ≡ 1 →
           Pierced {X = Unit {0}} PutItem (λ _. g.opening z m other open_brace >> many other.item >>= λ items. token close_brace >> nothing (item.Block items)) ts a rest
       pierced-block ts a rest (at, m0, p0, (xs, m1, p1, (c, m2, p2, (eq, r)))) e =
-          pierce-prefix Any PutItem _ _ _ (local-opener T n m le open_brace (free open_brace)) ts at m0 p0 a rest
+          pierce-prefix Any PutItem _ _ _ (local-opener all n m le open_brace (free open_brace)) ts at m0 p0 a rest
           (pierce-suffix PutItems PutItem (λ _. many other.item) (λ items. token close_brace >> nothing (item.Block items)) (λ k items. token close_brace >> nothing (item.Block items))
-          (λ x. local-after T (λ (c c' : Item). Unit {0}) close_brace (free close_brace) _ _ (local-nothing T (λ (c c' : Item). Unit {0}) (item.Block x) (item.Block x) tt))
-          (λ k y x d h. local-after T (PutItem y) close_brace (free close_brace) _ _ (local-nothing T (PutItem y) (item.Block x) (item.Block d) (same y x d h)))
+          (λ x. local-after all (λ (c c' : Item). Unit {0}) close_brace (free close_brace) _ _ (local-nothing all (λ (c c' : Item). Unit {0}) (item.Block x) (item.Block x) tt))
+          (λ k y x d h. local-after all (PutItem y) close_brace (free close_brace) _ _ (local-nothing all (PutItem y) (item.Block x) (item.Block d) (same y x d h)))
           m0 xs m1 (pierce-lift PutItems (many other.item) m0 xs m1 (pierce-many inner.item other.item l.item deeper m0 xs m1 p1 one)) a rest (c, m2, p2, (eq, r)))
         where
           one : count_list test xs ≡ 1
@@ -466,7 +630,7 @@ module _ (test : Word → Bool) (gap : ℕ) where
     pierce-tops q q' local pierce ts (a ∷ xs) rest (middle, p, r) e = ⊎_elim here (λ c. there c (pierce-tops q q' local pierce middle xs rest r c.1)) (one-or-other (count_top within test a) (count_tops within test xs) e)
       where
         u : Taken T (AllZip SameTop) (many q') middle xs rest
-        u = local-many T SameTop q q' local middle xs rest r
+        u = local-many all SameTop q q' local middle xs rest r
 
         here : (count_top within test a ≡ 1) × (count_tops within test xs ≡ 0) → Pierced {X = Unit {0}} PutTops (λ _. many q') ts (a ∷ xs) rest
         here c =
@@ -480,6 +644,8 @@ module _ (test : Word → Bool) (gap : ℕ) where
               word = v.word;
               body = v.body;
               chosen = v.chosen;
+              headed = v.headed;
+              closed = closed-more v.behind u.front v.closed;
               levels = v.levels;
               more_levels = v.more_levels;
               apart = v.apart;
@@ -505,6 +671,8 @@ module _ (test : Word → Bool) (gap : ℕ) where
               word = v.word;
               body = v.body;
               chosen = v.chosen;
+              headed = headed-more v.word h.front v.front v.headed;
+              closed = v.closed;
               levels = v.levels;
               more_levels = v.more_levels;
               apart = v.apart;
@@ -547,15 +715,15 @@ module _ (test : Word → Bool) (gap : ℕ) where
       pierced-top ts a rest (inr (inr (inl (s, m0, p0, (x, m1, p1, (o, m2, p2, (k, m3, p3, (eq, r)))))))) e = let h : 0 ≡ 1 = ap (count_top within test) eq ∙ e in absurd (omega (arith, h))
       pierced-top ts a rest (inr (inr (inr (at, m0, p0, (x, m1, p1, (o, m2, p2, (xs, m3, p3, (c, m4, p4, (b, m5, p5, (is, m6, p6, (k, m7, p7, (eq, r)))))))))))) e =
           pierce-into PutTop _ _ (λ x us b more k. inr (inr (inr k))) ts a rest
-          (pierce-prefix Any PutTop (token w.word_module) (token w.word_module) _ (local-token T w.word_module (free w.word_module)) ts at m0 p0 a rest
+          (pierce-prefix Any PutTop (token w.word_module) (token w.word_module) _ (local-token all w.word_module (free w.word_module)) ts at m0 p0 a rest
           (pierce-prefix SameName PutTop name name _ names m0 x m1 p1 a rest
-          (pierce-prefix Any PutTop _ _ _ (local-opener T n m le' open_paren (free open_paren)) m1 o m2 p2 a rest
+          (pierce-prefix Any PutTop _ _ _ (local-opener all n m le' open_paren (free open_paren)) m1 o m2 p2 a rest
           (pierce-prefix (AllZip SameName) PutTop _ _ _ (t.local-formals n m le' (g.below z n) (g.below z m) l') m2 xs m3 p3 a rest
-          (pierce-prefix Any PutTop (token close_paren) (token close_paren) _ (local-token T close_paren (free close_paren)) m3 c m4 p4 a rest
-          (pierce-prefix Any PutTop _ _ _ (local-opener T n m le' open_brace (free open_brace)) m4 b m5 p5 a rest
+          (pierce-prefix Any PutTop (token close_paren) (token close_paren) _ (local-token all close_paren (free close_paren)) m3 c m4 p4 a rest
+          (pierce-prefix Any PutTop _ _ _ (local-opener all n m le' open_brace (free open_brace)) m4 b m5 p5 a rest
           (pierce-suffix PutItems PutTop (λ _. many (g.below z m).body) (λ items. token close_brace >> nothing (Module x xs items at)) (λ k items. token close_brace >> nothing (Module k.0.0.0.0.1.0 k.0.0.1.0 items k.0.0.0.0.0.1.0))
-          (λ i. local-after T (λ (c c' : Top). Unit {0}) close_brace (free close_brace) _ _ (local-nothing T (λ (c c' : Top). Unit {0}) (Module x xs i at) (Module x xs i at) tt))
-          (λ k y i d h. local-after T (PutTop y) close_brace (free close_brace) _ _ (local-nothing T (PutTop y) (Module x xs i at) (Module k.0.0.0.0.1.0 k.0.0.1.0 d k.0.0.0.0.0.1.0)
+          (λ i. local-after all (λ (c c' : Top). Unit {0}) close_brace (free close_brace) _ _ (local-nothing all (λ (c c' : Top). Unit {0}) (Module x xs i at) (Module x xs i at) tt))
+          (λ k y i d h. local-after all (PutTop y) close_brace (free close_brace) _ _ (local-nothing all (PutTop y) (Module x xs i at) (Module k.0.0.0.0.1.0 k.0.0.1.0 d k.0.0.0.0.0.1.0)
           (module-put y x k.0.0.0.0.1.0 xs k.0.0.1.0 i d at k.0.0.0.0.0.1.0 one.0 k.0.0.0.0.1.1 k.0.0.1.1 h)))
           m5 is m6 (pierce-lift PutItems (many (g.below z m).body) m5 is m6 (pierce-many (g.below z n).body (g.below z m).body l'.body (deeper-bodies n m apart) m5 is m6 p6 one.1)) a rest (k, m7, p7, (eq, r)))))))))
         where

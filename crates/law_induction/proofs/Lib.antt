@@ -2,6 +2,3 @@ pub mod RenamedOutcomes
 pub mod Inductions
 pub mod Trees
 pub mod WorkedTexts
-pub mod Joined
-pub mod Written
-pub mod Replacing

@@ -2,4 +2,3 @@ pub mod Renamed
 pub mod Laws
 pub mod Strengthened
 pub mod WorkedTexts
-pub mod Replacement

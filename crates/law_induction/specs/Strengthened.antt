@@ -4,9 +4,6 @@ use Rattle.std.specs.Str.{bytes_eq}
 use Rattle.smv_core.specs.Values.{Name, ordset}
 use Rattle.smv_core.specs.Types.{Types, simple}
 use Rattle.smv_core.specs.FlatOrder.{Claimed, main}
-use Rattle.smv_core.specs.Signs.{open_paren, close_paren, open_bracket, close_bracket, colon, less, ampersand, arrow, word_in}
-use Rattle.smv_core.specs.declared.token.TokenKind.{TokenKind}
-use Rattle.smv_core.specs.declared.token.TokenKind.TheVariants.{Ident}
 use Rattle.smv_core.specs.declared.tree.Word.{Word}
 use Rattle.smv_core.specs.declared.tree.Text.{Text}
 use Rattle.smv_core.specs.declared.tree.Top.{Top}
@@ -51,11 +48,6 @@ module _ (var fresh set : Name) where
   -- and then the claim itself
   abbrev pub stronger : Expr → Expr
   stronger e = expr.Implies (for_smaller e ∷ e ∷ [])
-
-  -- the kinds of the tokens `& [ v < VAR -> ( E2 ) : v in T ] -> ( E )`
-  abbrev pub written : List TokenKind → List TokenKind → List TokenKind
-  written smaller body =
-      ampersand ∷ open_bracket ∷ Ident fresh ∷ less ∷ Ident var ∷ arrow ∷ open_paren ∷ smaller ++ (close_paren ∷ colon ∷ Ident fresh ∷ word_in ∷ Ident set ∷ close_bracket ∷ arrow ∷ open_paren ∷ body ++ (close_paren ∷ []))
 
   -- A claim inside these binders can be proved by induction: the innermost variable of this name is over the ordset, and the new name is no name of the claim.
   pub record IsInductive (types : Types) (params : List (Name × TypeExpr)) (body : Expr) : Type 0 where

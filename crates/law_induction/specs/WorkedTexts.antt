@@ -10,7 +10,6 @@ use Rattle.smv_core.specs.Values.{Name}
 use Rattle.smv_core.specs.Spelling.{Spells}
 use Rattle.law_grammar.specs.Worked.{laid}
 use Rattle.law_places.specs.Placeless.{placeless_text}
-use Rattle.law_induction.specs.Replacement.{replacement, IsName}
 use Rattle.law_induction.specs.Strengthened.{stronger_text, AreInductiveTops}
 
 abbrev i : TokenKind
@@ -114,13 +113,3 @@ type_names = ordset_I ++ w.word_typedef ∷ Ident (codes "J") ∷ w.word_boolean
 -- Its claim is not one that can be proved by induction: it fails at the least value, and the strengthened text, in which `below0` would be a type, is refused.
 abbrev pub TypeNamesRefused : Type 0
 TypeNamesRefused = (x : Text) × Spells 64 (laid 0 type_names) x × (AreInductiveTops (codes "J") (codes "below0") (codes "I") (codes "p") (types_from [] x.tops) x.tops → ⊥)
-
--- ---- bytes
-
--- what stands in place of `x[i]`
-abbrev pub ReplacementWritten : Type 0
-ReplacementWritten = replacement (codes "i") (codes "below0") (codes "I") (codes "x[below0]") (codes "x[i]") ≡ codes "& [ below0 < i -> ( x[below0] ) : below0 in I ] -> ( x[i] )"
-
--- `below0` is a name, and `in` is none
-abbrev pub NamesAlone : Type 0
-NamesAlone = IsName (codes "below0") × (IsName (codes "in") → ⊥)

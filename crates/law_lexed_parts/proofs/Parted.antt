@@ -12,18 +12,18 @@ use Rattle.smv_lex.specs.Lexing.{Lexed, is_blank, is_letter, is_digit, is_in_lin
 use Rattle.smv_lex.proofs.Fronts.{token-within}
 use Rattle.law_lists.proofs.Lists.{head_is, tail_is}
 use Rattle.law_lists.proofs.Each.{each_weaker}
-use Rattle.law_lexed_parts.specs.Parts.{moved_tokens, moved, behind, ByFront, IsCut, with_front, tokens_before}
+use Rattle.law_lexed_parts.specs.Parts.{moved_tokens, moved, behind, ByFront, IsCut, with_front, tokens_before, size_of, end_of, end_of_all}
 use Rattle.law_lexed_parts.specs.Laws.{IsParted}
 use Rattle.law_lexed_parts.proofs.Seams.{front-is, begins-two, cut-kept, cut-within}
 use Rattle.law_lexed_parts.proofs.Parts.{in-parts, lexed-moved, tokens-moved, cut-append, tokens-kept, apart-blank, next}
 
 -- ---- offsets
 
-with-ok : (t : Token) (l : Lexed) (ts : List Token) → with_token t l ≡ Ok ts → (us : List Token) × (l ≡ Ok us) × (ts ≡ t ∷ us)
+pub with-ok : (t : Token) (l : Lexed) (ts : List Token) → with_token t l ≡ Ok ts → (us : List Token) × (l ≡ Ok us) × (ts ≡ t ∷ us)
 with-ok t (Ok us) ts e = (us, refl, cc (e))
 with-ok t (Err f) ts e = absurd (cc (e))
 
-abbrev From : ℕ → List Token → Type 0
+abbrev pub From : ℕ → List Token → Type 0
 From at ts = AllByRecursion (λ (t : Token). at ≤ t.at) ts
 
 later : (at : ℕ) (ts : List Token) → From (at + 1) ts → From at ts
@@ -41,11 +41,11 @@ low at zero (b ∷ xs) ts e = by_front (front_of (b ∷ xs)) e (λ k us q. later
     by_front (Whole kind n) q rest = let w = with-ok (record { kind = kind; at = at }) (lexed_from (at + 1) (n - 1) xs) ts q in subst (From at) (sym w.2) (omega arith, rest (n - 1) w.0 w.1)
     by_front (Broken number) q rest = absurd (cc (q))
 
-abbrev Rising : List Token → Type 0
+abbrev pub Rising : List Token → Type 0
 Rising [] = Unit {0}
 Rising (t ∷ ts) = From (t.at + 1) ts × Rising ts
 
-rising : (at skip : ℕ) (xs : List ℕ) (ts : List Token) → lexed_from at skip xs ≡ Ok ts → Rising ts
+pub rising : (at skip : ℕ) (xs : List ℕ) (ts : List Token) → lexed_from at skip xs ≡ Ok ts → Rising ts
 unfolding lexed_from
 rising at skip [] ts e = let same : [] ≡ ts = cc (e) in subst Rising same tt
 rising at (suc skip) (b ∷ xs) ts e = rising (at + 1) skip xs ts e
@@ -58,7 +58,7 @@ rising at zero (b ∷ xs) ts e = by_front (front_of (b ∷ xs)) e (λ k us q. ri
         subst Rising (sym w.2) (low (at + 1) (n - 1) xs w.0 w.1, rest (n - 1) w.0 w.1)
     by_front (Broken number) q rest = absurd (cc (q))
 
-abbrev Under : ℕ → List Token → Type 0
+abbrev pub Under : ℕ → List Token → Type 0
 Under k ts = AllByRecursion (λ (t : Token). t.at < k) ts
 
 -- the tokens of some bytes stand among them
@@ -73,7 +73,7 @@ high at zero (b ∷ p) more = by_front (front_of (b ∷ p ++ more)) (λ k. subst
     by_front (Broken number) rest = tt
 
 -- offsets that rise are lower before one than at it and behind it
-rising-split : (front : List Token) (t : Token) (rest : List Token) → Rising (front ++ (t ∷ rest)) → Under t.at front × From t.at (t ∷ rest)
+pub rising-split : (front : List Token) (t : Token) (rest : List Token) → Rising (front ++ (t ∷ rest)) → Under t.at front × From t.at (t ∷ rest)
 rising-split [] t rest h = (tt, (omega arith, later t.at rest h.0))
 rising-split (f ∷ front) t rest h =
     let r = rising-split front t rest h.1 in
@@ -97,7 +97,7 @@ parted-by k (x ∷ xs) ys [] (w ∷ ws) e a b c d = absurd (let same : x ≡ w =
 
 -- ---- the lexer begins anew where a token stands
 
-abbrev IsToken : List ℕ → Type 0
+abbrev pub IsToken : List ℕ → Type 0
 IsToken xs = (kind : TokenKind) × (n : ℕ) × (front_of xs ≡ Whole kind n)
 
 no-token : IsToken [] → ⊥
@@ -193,19 +193,19 @@ none-skipped : (at : ℕ) (p q : List ℕ) → tokens_before at (length p) p q �
 none-skipped at [] q = refl
 none-skipped at (b ∷ p) q = none-skipped (at + 1) p q
 
-whole-cut : (kind : TokenKind) (w q : List ℕ) → front_of (w ++ q) ≡ Whole kind (length w) → 0 < length w → IsCut 0 w q
+pub whole-cut : (kind : TokenKind) (w q : List ℕ) → front_of (w ++ q) ≡ Whole kind (length w) → 0 < length w → IsCut 0 w q
 whole-cut kind [] q is lt = tt
 whole-cut kind (b ∷ w) q is lt =
     let one : length w ≡ suc (length w) - 1 = omega arith in
     subst (λ f. ByFront f (λ n. (begins (b ∷ w ++ q) (codes "--") ≡ true → n ≤ length w) × IsCut (n - 1) w q)) (sym is) (λ line. absurd (let l = line-front b (w ++ q) line in cc (l, is)), subst (λ k. IsCut k w q) one (all-skipped w q))
 
-whole-tokens : (at : ℕ) (kind : TokenKind) (w q : List ℕ) → front_of (w ++ q) ≡ Whole kind (length w) → 0 < length w → tokens_before at 0 w q ≡ record { kind = kind; at = at } ∷ []
+pub whole-tokens : (at : ℕ) (kind : TokenKind) (w q : List ℕ) → front_of (w ++ q) ≡ Whole kind (length w) → 0 < length w → tokens_before at 0 w q ≡ record { kind = kind; at = at } ∷ []
 whole-tokens at kind [] q is lt = absurd (omega (arith, lt))
 whole-tokens at kind (b ∷ w) q is lt =
     let one : suc (length w) - 1 ≡ length w = omega arith in
     ap (λ f. with_front at f (λ n. tokens_before (at + 1) (n - 1) w q)) is ∙ ap (λ k. record { kind = kind; at = at } ∷ tokens_before (at + 1) k w q) one ∙ ap (λ l. record { kind = kind; at = at } ∷ l) (none-skipped (at + 1) w q)
 
-cut-second : (skip : ℕ) (p w q : List ℕ) → IsCut skip (p ++ w) q → IsCut skip p (w ++ q) → IsCut 0 w q
+pub cut-second : (skip : ℕ) (p w q : List ℕ) → IsCut skip (p ++ w) q → IsCut skip p (w ++ q) → IsCut 0 w q
 cut-second zero [] w q c d = c
 cut-second (suc skip) [] w q c d = absurd d
 cut-second (suc skip) (b ∷ p) w q c d = cut-second skip p w q c d
@@ -223,12 +223,12 @@ zero_plus : (n : ℕ) → 0 + n ≡ n
 zero_plus n = omega arith
 
 -- what is read behind some tokens
-behind-ok : (ts : List Token) (l : Lexed) (us : List Token) → behind ts l ≡ Ok us → (vs : List Token) × (l ≡ Ok vs) × (ts ++ vs ≡ us)
+pub behind-ok : (ts : List Token) (l : Lexed) (us : List Token) → behind ts l ≡ Ok us → (vs : List Token) × (l ≡ Ok vs) × (ts ++ vs ≡ us)
 behind-ok ts (Ok vs) us e = (vs, refl, cc (e))
 behind-ok ts (Err f) us e = absurd (cc (e))
 
 -- the tokens before a place where one stands are those of the bytes before it
-split-at : (p more : List ℕ) (front rest : List Token) (t : Token) → lexed (p ++ more) ≡ Ok (front ++ (t ∷ rest)) → t.at ≡ length p →
+pub split-at : (p more : List ℕ) (front rest : List Token) (t : Token) → lexed (p ++ more) ≡ Ok (front ++ (t ∷ rest)) → t.at ≡ length p →
     IsCut 0 p more × IsToken more × (tokens_before 0 0 p more ≡ front) × (lexed_from (length p) 0 more ≡ Ok (t ∷ rest))
 split-at p more front rest t e q =
     let place : t.at ≡ 0 + length p = omega (arith, q) in
@@ -250,8 +250,14 @@ last-of : (t : Token) (middle : List Token) → Last t middle
 last-of t [] = record { init = []; token = t; split = refl }
 last-of t (m ∷ ms) = let l = last-of m ms in record { init = t ∷ l.init; token = l.token; split = ap (λ k. t ∷ k) l.split }
 
+-- some tokens end where the last of them does
+end-last : (text : List ℕ) (t : Token) (middle : List Token) → end_of_all text (t ∷ middle) ≡ end_of text (last-of t middle).token
+unfolding last-of
+end-last text t [] = refl
+end-last text t (m ∷ ms) = end-last text m ms
+
 -- the tokens of a text stand within it
-within-text : (at skip : ℕ) (xs : List ℕ) (ts : List Token) → lexed_from at skip xs ≡ Ok ts → Under (at + length xs) ts
+pub within-text : (at skip : ℕ) (xs : List ℕ) (ts : List Token) → lexed_from at skip xs ≡ Ok ts → Under (at + length xs) ts
 unfolding lexed_from
 within-text at skip [] ts e = let same : [] ≡ ts = cc (e) in subst (Under (at + 0)) same tt
 within-text at (suc skip) (b ∷ xs) ts e = subst (λ k. Under k ts) (next at (length xs)) (within-text (at + 1) skip xs ts e)
@@ -262,11 +268,11 @@ within-text at zero (b ∷ xs) ts e = by_front (front_of (b ∷ xs)) e (λ k us 
     by_front (Whole kind n) q rest = let w = with-ok (record { kind = kind; at = at }) (lexed_from (at + 1) (n - 1) xs) ts q in subst (Under (at + suc (length xs))) (sym w.2) (omega arith, rest (n - 1) w.0 w.1)
     by_front (Broken number) q rest = absurd (cc (q))
 
-under-there : (k : ℕ) (front : List Token) (t : Token) (rest : List Token) → Under k (front ++ (t ∷ rest)) → t.at < k
+pub under-there : (k : ℕ) (front : List Token) (t : Token) (rest : List Token) → Under k (front ++ (t ∷ rest)) → t.at < k
 under-there k [] t rest h = h.0
 under-there k (f ∷ front) t rest h = under-there k front t rest h.1
 
-moved-ok : (d : ℕ) (l : Lexed) (ts : List Token) → moved d l ≡ Ok ts → (us : List Token) × (l ≡ Ok us) × (ts ≡ moved_tokens d us)
+pub moved-ok : (d : ℕ) (l : Lexed) (ts : List Token) → moved d l ≡ Ok ts → (us : List Token) × (l ≡ Ok us) × (ts ≡ moved_tokens d us)
 moved-ok d (Ok us) ts e = (us, refl, cc (e))
 moved-ok d (Err f) ts e = absurd (cc (e))
 
@@ -400,6 +406,11 @@ module _ (text : List ℕ) (front : List Token) (t : Token) (middle rest : List 
   others : (us : List Token) × (lexed q ≡ Ok us) × (rest ≡ moved_tokens (length p + length bytes) us)
   others = moved-ok (length p + length bytes) (lexed q) rest (sym (lexed-moved (length p + length bytes) 0 0 q) ∙ ap (λ k. lexed_from k 0 q) (zero_plus (length p + length bytes)) ∙ after)
 
+  ends-at : end_of_all text (t ∷ middle) ≡ length p + length bytes
+  ends-at =
+      let place : u.at + n ≡ length p + length bytes = let a = ends in let b = pu-long in let c = w-long in omega (arith, a, b, c) in
+      end-last text t middle ∙ ap (λ f. u.at + size_of f) at-last.1.2 ∙ place
+
   pub parted : IsParted text front (t ∷ middle) rest
   parted = record {
     before = p;
@@ -413,4 +424,6 @@ module _ (text : List ℕ) (front : List Token) (t : Token) (middle rest : List 
     others = others.0;
     last = others.1;
     moved_others = others.2;
+    starts = sym p-long;
+    ends = ends-at;
   }

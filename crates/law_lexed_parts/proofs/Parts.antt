@@ -125,7 +125,7 @@ cut-append zero (b ∷ p) w q c d =
     by_front (Whole kind n) h rest = (λ e. longer p w n (h.0 e), rest (n - 1) h.1)
     by_front (Broken number) h rest = h
 
-tokens-append : (at skip : ℕ) (p w q : List ℕ) → IsCut skip p (w ++ q) → tokens_before at skip (p ++ w) q ≡ tokens_before at skip p (w ++ q) ++ tokens_before (at + length p) 0 w q
+pub tokens-append : (at skip : ℕ) (p w q : List ℕ) → IsCut skip p (w ++ q) → tokens_before at skip (p ++ w) q ≡ tokens_before at skip p (w ++ q) ++ tokens_before (at + length p) 0 w q
 tokens-append at zero [] w q c = let e : at ≡ at + 0 = omega arith in ap (λ k. tokens_before k 0 w q) e
 tokens-append at (suc skip) [] w q c = absurd c
 tokens-append at (suc skip) (b ∷ p) w q c = tokens-append (at + 1) skip p w q c ∙ ap (λ k. tokens_before (at + 1) skip p (w ++ q) ++ tokens_before k 0 w q) (next at (length p))

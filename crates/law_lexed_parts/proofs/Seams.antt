@@ -12,7 +12,7 @@ use Rattle.smv_lex.specs.declared.front.Front.TheVariants.{Passed, Whole, Broken
 use Rattle.smv_lex.specs.Lexing.{is_blank, is_letter, is_digit, is_name_byte, is_in_line, number_of, begins, closing, word_kind, word_front, number_front, sign_of, sign_front, comment_front, front_of}
 use Rattle.law_lists.proofs.Lists.{head_is}
 use Rattle.law_lexed_parts.specs.Parts.{ByFront, IsCut, AreApart}
-use Rattle.law_lexed_parts.proofs.Signs.{Differ, apart-differ, no-sign, no-long_sign}
+use Rattle.law_lexed_parts.proofs.Signs.{Differ, apart-names, apart-differ, no-sign, no-long_sign}
 
 -- ---- bytes that pass a test
 
@@ -37,7 +37,7 @@ run-kept f sub a [] more other le apart =
 
         by_next : (t : Bool) → f c ≡ t → cond t (c ∷ take_while f o) [] ≡ []
         by_next false q = refl
-        by_next true q = absurd (clash (is_name_byte a) (is_name_byte c) (sub a e) (sub c q) (apart-differ a c h).names)
+        by_next true q = absurd (clash (is_name_byte a) (is_name_byte c) (sub a e) (sub c q) (apart-names a c h))
 
     by_test : (t : Bool) → f a ≡ t → length (cond t (a ∷ take_while f more) []) ≤ 1 → cond t (a ∷ take_while f other) [] ≡ cond t (a ∷ take_while f more) []
     by_test false e h = refl
@@ -54,7 +54,7 @@ run-kept f sub a (c ∷ s) more other le apart =
     by_test true h rest = ap (λ l. a ∷ l) (rest (omega (arith, h)))
 
 -- one that ends before the last of them is the same anyway
-inner-kept : (f : ℕ → Bool) (s more other : List ℕ) → length (take_while f (s ++ more)) < length s → take_while f (s ++ other) ≡ take_while f (s ++ more)
+pub inner-kept : (f : ℕ → Bool) (s more other : List ℕ) → length (take_while f (s ++ more)) < length s → take_while f (s ++ other) ≡ take_while f (s ++ more)
 inner-kept f [] more other lt = absurd (omega (arith, lt))
 inner-kept f (a ∷ s) more other lt =
     take_while-cons f a (s ++ other) ∙ by_test (f a) (subst (λ l. length l < suc (length s)) (take_while-cons f a (s ++ more)) lt) (λ low. inner-kept f s more other low) ∙ sym (take_while-cons f a (s ++ more))
@@ -64,7 +64,7 @@ inner-kept f (a ∷ s) more other lt =
     by_test false h rest = refl
     by_test true h rest = ap (λ l. a ∷ l) (rest (omega (arith, h)))
 
-digit-names : (x : ℕ) → is_digit x ≡ true → is_name_byte x ≡ true
+pub digit-names : (x : ℕ) → is_digit x ≡ true → is_name_byte x ≡ true
 digit-names x e = by_test (is_letter x) (is_digit x) e
   where
     by_test : (t s : Bool) → s ≡ true → (t || s) ≡ true
@@ -75,10 +75,10 @@ same-name : (x : ℕ) → is_name_byte x ≡ true → is_name_byte x ≡ true
 same-name x e = e
 
 -- a front of so many bytes, or more, or broken
-abbrev Within : Front → ℕ → Type 0
+abbrev pub Within : Front → ℕ → Type 0
 Within f k = ByFront f (λ n. n ≤ k)
 
-word-within : (word : List ℕ) (k : ℕ) → Within (word_front word) k → length word ≤ k
+pub word-within : (word : List ℕ) (k : ℕ) → Within (word_front word) k → length word ≤ k
 unfolding word_front
 word-within word k h = by_test (nat_lt 64 (length word)) h
   where
@@ -86,7 +86,7 @@ word-within word k h = by_test (nat_lt 64 (length word)) h
     by_test true h = absurd h
     by_test false h = h
 
-number-within : (digits : List ℕ) (k : ℕ) → Within (number_front digits) k → length digits ≤ k
+pub number-within : (digits : List ℕ) (k : ℕ) → Within (number_front digits) k → length digits ≤ k
 unfolding number_front
 number-within digits k h = by_test (nat_lt 511 (number_of digits)) h
   where
@@ -127,7 +127,7 @@ closing-kept (c ∷ d ∷ s) more other k e le = by_test (begins (c ∷ d ∷ s 
 base : ℕ → Front
 base b = unwrap_or (sign_of (b ∷ [])) (Broken 1)
 
-alone : (b : ℕ) → sign_front (b ∷ []) ≡ unwrap_or (sign_of (b ∷ [])) (Broken 1)
+pub alone : (b : ℕ) → sign_front (b ∷ []) ≡ unwrap_or (sign_of (b ∷ [])) (Broken 1)
 unfolding sign_front
 alone b = by_sign (sign_of (b ∷ []))
   where
@@ -143,7 +143,7 @@ one-kept b (c ∷ []) h = rw (no-sign b c [] (apart-differ b c h)) refl
 one-kept b (c ∷ d ∷ rest) h = rw (no-sign b c (d ∷ []) (apart-differ b c h), no-sign b c [] (apart-differ b c h)) refl
 
 -- and so it is where the sign has one byte
-one-within : (b : ℕ) (more : List ℕ) → Within (sign_front (b ∷ more)) 1 → sign_front (b ∷ more) ≡ unwrap_or (sign_of (b ∷ [])) (Broken 1)
+pub one-within : (b : ℕ) (more : List ℕ) → Within (sign_front (b ∷ more)) 1 → sign_front (b ∷ more) ≡ unwrap_or (sign_of (b ∷ [])) (Broken 1)
 unfolding sign_front
 one-within b [] h = alone b
 one-within b (c ∷ []) h = by_sign (spelled_in signs (b ∷ c ∷ [])) h
@@ -174,7 +174,7 @@ unfolding sign_front
 two-kept b c [] h = pair-alone b c
 two-kept b c (d ∷ rest) h = rw (no-long_sign b c d (apart-differ c d h)) refl
 
-two-within : (b c : ℕ) (more : List ℕ) → Within (sign_front (b ∷ c ∷ more)) 2 → sign_front (b ∷ c ∷ more) ≡ unwrap_or (option_or (sign_of (b ∷ c ∷ [])) (sign_of (b ∷ []))) (Broken 1)
+pub two-within : (b c : ℕ) (more : List ℕ) → Within (sign_front (b ∷ c ∷ more)) 2 → sign_front (b ∷ c ∷ more) ≡ unwrap_or (option_or (sign_of (b ∷ c ∷ [])) (sign_of (b ∷ []))) (Broken 1)
 unfolding sign_front
 two-within b c [] h = pair-alone b c
 two-within b c (d ∷ rest) h = by_sign (spelled_in signs (b ∷ c ∷ d ∷ [])) h
@@ -206,12 +206,12 @@ pub front-is : (b : ℕ) (xs : List ℕ) → front_of (b ∷ xs) ≡ found_by (i
 unfolding front_of
 front-is b xs = refl
 
-less : (P : ℕ → Type 0) (f : Front) (k : ℕ) → ByFront f (λ n. P n × (n - 1 ≤ k)) → Within f (suc k)
+pub less : (P : ℕ → Type 0) (f : Front) (k : ℕ) → ByFront f (λ n. P n × (n - 1 ≤ k)) → Within f (suc k)
 less P (Passed n) k h = let low = h.1 in omega (arith, low)
 less P (Whole kind n) k h = let low = h.1 in omega (arith, low)
 less P (Broken number) k h = absurd h
 
-same-front : (t0 t1 t2 t3 t4 t3' t4' : Bool) (word number comment sign word' number' comment' sign' : Front) (n n' k : ℕ) →
+pub same-front : (t0 t1 t2 t3 t4 t3' t4' : Bool) (word number comment sign word' number' comment' sign' : Front) (n n' k : ℕ) →
     ByFront (found_by t0 t1 t2 t3 t4 word number (Passed n) comment sign) (λ m. (t3 ≡ true → m ≤ k) × (m - 1 ≤ k)) →
     (Within word (suc k) → word' ≡ word) → (Within number (suc k) → number' ≡ number) → (t3 ≡ true → n ≤ k → (t3' ≡ true) × (n' ≡ n)) → (t3 ≡ false → t3' ≡ false) →
     (t4 ≡ true → Within comment (suc k) → (t4' ≡ true) × (comment' ≡ comment)) → (t4 ≡ false → t4' ≡ false) → (Within sign (suc k) → sign' ≡ sign) →
@@ -247,7 +247,7 @@ no-pair x y b [] apart differ = and_none (nat_eq x b)
     and_none false = refl
 no-pair x y b (c ∷ rest) apart differ = differ c (apart-differ b c apart)
 
-same-begins : (x y b c : ℕ) (xs ys : List ℕ) → begins (b ∷ c ∷ xs) (x ∷ y ∷ []) ≡ begins (b ∷ c ∷ ys) (x ∷ y ∷ [])
+pub same-begins : (x y b c : ℕ) (xs ys : List ℕ) → begins (b ∷ c ∷ xs) (x ∷ y ∷ []) ≡ begins (b ∷ c ∷ ys) (x ∷ y ∷ [])
 same-begins x y b c xs ys = refl
 
 -- the same begins a line comment, or nothing does
@@ -263,10 +263,10 @@ no-comment : (b : ℕ) (bytes more other : List ℕ) → AreApart (b ∷ bytes) 
 no-comment b [] more other apart e = no-pair 47 42 b other apart (λ c p. p.comment)
 no-comment b (c ∷ bytes) more other apart e = same-begins 47 42 b c (bytes ++ other) (bytes ++ more) ∙ e
 
-abbrev line_length : List ℕ → ℕ
+abbrev pub line_length : List ℕ → ℕ
 line_length xs = length (take_while is_in_line xs)
 
-line-kept : (b : ℕ) (bytes more other : List ℕ) → begins (b ∷ bytes ++ more) (codes "--") ≡ true → line_length (b ∷ bytes ++ more) ≤ length bytes →
+pub line-kept : (b : ℕ) (bytes more other : List ℕ) → begins (b ∷ bytes ++ more) (codes "--") ≡ true → line_length (b ∷ bytes ++ more) ≤ length bytes →
     (begins (b ∷ bytes ++ other) (codes "--") ≡ true) × (line_length (b ∷ bytes ++ other) ≡ line_length (b ∷ bytes ++ more))
 line-kept b [] more other e le = absurd (by_line (is_in_line b) in_line (subst (λ l. length l ≤ 0) (take_while-cons is_in_line b more) le))
   where
@@ -278,7 +278,7 @@ line-kept b [] more other e le = absurd (by_line (is_in_line b) in_line (subst (
     by_line false q h = absurd (cc (q))
 line-kept b (c ∷ bytes) more other e le = (same-begins 45 45 b c (bytes ++ other) (bytes ++ more) ∙ e, ap length (inner-kept is_in_line (b ∷ c ∷ bytes) more other (omega (arith, le))))
 
-comment-kept : (b : ℕ) (bytes more other : List ℕ) → begins (b ∷ bytes ++ more) (codes "/*") ≡ true → Within (comment_of (b ∷ bytes ++ more)) (suc (length bytes)) →
+pub comment-kept : (b : ℕ) (bytes more other : List ℕ) → begins (b ∷ bytes ++ more) (codes "/*") ≡ true → Within (comment_of (b ∷ bytes ++ more)) (suc (length bytes)) →
     (begins (b ∷ bytes ++ other) (codes "/*") ≡ true) × (comment_of (b ∷ bytes ++ other) ≡ comment_of (b ∷ bytes ++ more))
 comment-kept b [] more other e h = absurd (by_closing (closing (drop 2 (b ∷ more))) h)
   where

@@ -1,9 +1,10 @@
 -- Which bytes are the front of no sign.
-use Rattle.std.proofs.Common.{◌≡◌, ℕ, List, [], ◌∷◌, None, Bool, true, false, ◌&&◌, ◌||◌, nat_eq, refl}
+use Rattle.std.proofs.Common.{◌≡◌, ℕ, List, [], ◌∷◌, None, Bool, true, false, ◌&&◌, ◌||◌, nat_eq, refl, sym, subst}
+use Rattle.std.proofs.lemmas.Bool.{eqb-true}
 use Rattle.std.specs.Str.{bytes_eq}
 use Rattle.smv_core.specs.declared.token.TokenKind.{TokenKind}
 use Rattle.smv_core.specs.Spellings.{signs, spelled_in}
-use Rattle.smv_lex.specs.Lexing.{is_name_byte}
+use Rattle.smv_lex.specs.Lexing.{is_letter, is_name_byte}
 use Rattle.law_lists.proofs.Booleans.{not_left, not_right}
 use Rattle.law_lexed_parts.specs.Parts.{are_joined}
 
@@ -41,9 +42,8 @@ none-of : (list : List (TokenKind × List ℕ)) (bytes : List ℕ) → AllDiffer
 none-of [] bytes p = refl
 none-of (entry ∷ more) bytes p = rw (p.0) (none-of more bytes p.1)
 
--- what is known of two bytes that do not go together
+-- two bytes begin no longer sign and no comment
 pub record Differ (b c : ℕ) : Type 0 where
-  pub names : (is_name_byte b && is_name_byte c) ≡ false
   pub dots : bytes_eq (46 ∷ 46 ∷ []) (b ∷ c ∷ []) ≡ false
   pub becomes : bytes_eq (58 ∷ 61 ∷ []) (b ∷ c ∷ []) ≡ false
   pub differ : bytes_eq (126 ∷ 61 ∷ []) (b ∷ c ∷ []) ≡ false
@@ -54,6 +54,10 @@ pub record Differ (b c : ℕ) : Type 0 where
   pub slashes : bytes_eq (47 ∷ 47 ∷ []) (b ∷ c ∷ []) ≡ false
   pub line : bytes_eq (45 ∷ 45 ∷ []) (b ∷ c ∷ []) ≡ false
   pub comment : bytes_eq (47 ∷ 42 ∷ []) (b ∷ c ∷ []) ≡ false
+
+-- nor are both bytes of names where they do not go together
+pub apart-names : (b c : ℕ) → are_joined b c ≡ false → (is_name_byte b && is_name_byte c) ≡ false
+apart-names b c h = not_left (is_name_byte b && is_name_byte c) _ h
 
 pub apart-differ : (b c : ℕ) → are_joined b c ≡ false → Differ b c
 apart-differ b c h =
@@ -68,7 +72,6 @@ apart-differ b c h =
     let r8 = not_right (bytes_eq (47 ∷ 47 ∷ []) (b ∷ c ∷ [])) _ r7 in
     let r9 = not_right (bytes_eq (45 ∷ 45 ∷ []) (b ∷ c ∷ [])) _ r8 in
     record {
-      names = not_left (is_name_byte b && is_name_byte c) _ h;
       dots = not_left (bytes_eq (46 ∷ 46 ∷ []) (b ∷ c ∷ [])) _ r0;
       becomes = not_left (bytes_eq (58 ∷ 61 ∷ []) (b ∷ c ∷ [])) _ r1;
       differ = not_left (bytes_eq (126 ∷ 61 ∷ []) (b ∷ c ∷ [])) _ r2;
@@ -106,3 +109,48 @@ apart-behind c h dot equal greater minus slash star b =
     (or_none (bytes_eq (60 ∷ 61 ∷ []) (b ∷ c ∷ [])) _ (second 60 61 b c equal) (or_none (bytes_eq (62 ∷ 61 ∷ []) (b ∷ c ∷ [])) _ (second 62 61 b c equal) (or_none (bytes_eq (45 ∷ 62 ∷ []) (b ∷ c ∷ [])) _ (second 45 62 b c greater)
     (or_none (bytes_eq (60 ∷ 45 ∷ []) (b ∷ c ∷ [])) _ (second 60 45 b c minus) (or_none (bytes_eq (47 ∷ 47 ∷ []) (b ∷ c ∷ [])) _ (second 47 47 b c slash) (or_none (bytes_eq (45 ∷ 45 ∷ []) (b ∷ c ∷ [])) _ (second 45 45 b c minus)
     (or_none (bytes_eq (47 ∷ 42 ∷ []) (b ∷ c ∷ [])) _ (second 47 42 b c star) refl))))))))))
+
+-- ---- letters
+
+-- a byte that is none of a name is no letter
+pub other-byte : (k c : ℕ) → is_letter k ≡ false → is_letter c ≡ true → nat_eq k c ≡ false
+other-byte k c h letter = by_test (nat_eq k c) refl
+  where
+    by_test : (t : Bool) → nat_eq k c ≡ t → nat_eq k c ≡ false
+    by_test false e = e
+    by_test true e = absurd (let same : k ≡ c = eqb-true k c e in let clash : is_letter k ≡ true = subst (λ z. is_letter z ≡ true) (sym same) letter in cc (h, clash))
+
+-- no longer sign and no comment has a letter behind its first byte
+pub letter-differ : (b c : ℕ) → is_letter c ≡ true → Differ b c
+letter-differ b c letter = record {
+  dots = second 46 46 b c (other-byte 46 c refl letter);
+  becomes = second 58 61 b c (other-byte 61 c refl letter);
+  differ = second 126 61 b c (other-byte 61 c refl letter);
+  at_most = second 60 61 b c (other-byte 61 c refl letter);
+  at_least = second 62 61 b c (other-byte 61 c refl letter);
+  arrow = second 45 62 b c (other-byte 62 c refl letter);
+  double_arrow = second 60 45 b c (other-byte 45 c refl letter);
+  slashes = second 47 47 b c (other-byte 47 c refl letter);
+  line = second 45 45 b c (other-byte 45 c refl letter);
+  comment = second 47 42 b c (other-byte 42 c refl letter);
+}
+
+first : (x z b c : ℕ) → nat_eq x b ≡ false → bytes_eq (x ∷ z ∷ []) (b ∷ c ∷ []) ≡ false
+first x z b c h = rw (h) refl
+
+-- a byte that is none of a name is another than one that is
+unlike-name : (k a : ℕ) → is_name_byte k ≡ false → is_name_byte a ≡ true → nat_eq k a ≡ false
+unlike-name k a h name = by_test (nat_eq k a) refl
+  where
+    by_test : (t : Bool) → nat_eq k a ≡ t → nat_eq k a ≡ false
+    by_test false e = e
+    by_test true e = absurd (let same : k ≡ a = eqb-true k a e in let clash : is_name_byte k ≡ true = subst (λ z. is_name_byte z ≡ true) (sym same) name in cc (h, clash))
+
+-- a byte of a name and one that is none do not go together
+pub name-apart : (a c : ℕ) → is_name_byte a ≡ true → is_name_byte c ≡ false → are_joined a c ≡ false
+name-apart a c name other =
+    or_none (is_name_byte a && is_name_byte c) _ (and_second (is_name_byte a) (is_name_byte c) other)
+    (or_none (bytes_eq (46 ∷ 46 ∷ []) (a ∷ c ∷ [])) _ (first 46 46 a c (unlike-name 46 a refl name)) (or_none (bytes_eq (58 ∷ 61 ∷ []) (a ∷ c ∷ [])) _ (first 58 61 a c (unlike-name 58 a refl name)) (or_none (bytes_eq (126 ∷ 61 ∷ []) (a ∷ c ∷ [])) _ (first 126 61 a c (unlike-name 126 a refl name))
+    (or_none (bytes_eq (60 ∷ 61 ∷ []) (a ∷ c ∷ [])) _ (first 60 61 a c (unlike-name 60 a refl name)) (or_none (bytes_eq (62 ∷ 61 ∷ []) (a ∷ c ∷ [])) _ (first 62 61 a c (unlike-name 62 a refl name)) (or_none (bytes_eq (45 ∷ 62 ∷ []) (a ∷ c ∷ [])) _ (first 45 62 a c (unlike-name 45 a refl name))
+    (or_none (bytes_eq (60 ∷ 45 ∷ []) (a ∷ c ∷ [])) _ (first 60 45 a c (unlike-name 60 a refl name)) (or_none (bytes_eq (47 ∷ 47 ∷ []) (a ∷ c ∷ [])) _ (first 47 47 a c (unlike-name 47 a refl name)) (or_none (bytes_eq (45 ∷ 45 ∷ []) (a ∷ c ∷ [])) _ (first 45 45 a c (unlike-name 45 a refl name))
+    (or_none (bytes_eq (47 ∷ 42 ∷ []) (a ∷ c ∷ [])) _ (first 47 42 a c (unlike-name 47 a refl name)) refl))))))))))

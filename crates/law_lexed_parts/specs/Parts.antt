@@ -1,5 +1,5 @@
 -- What the lexer reads of bytes that are put together.
-use Rattle.std.specs.Prelude.{◌≡◌, ◌≤◌, ◌+◌, ◌-◌, ℕ, zero, suc, List, [], ◌∷◌, ◌++◌, map, length, codes, Ok, Err, Bool, true, false, ◌&&◌, ◌||◌}
+use Rattle.std.specs.Prelude.{◌≡◌, ◌≤◌, ◌+◌, ◌-◌, ℕ, zero, suc, List, [], ◌∷◌, ◌++◌, map, length, drop, codes, Ok, Err, Bool, true, false, ◌&&◌, ◌||◌}
 use Rattle.std.specs.List.{list_any}
 use Rattle.std.specs.Str.{bytes_eq}
 use Rattle.smv_core.specs.declared.token.Token.{Token}
@@ -69,3 +69,25 @@ AreApart [] other = Unit {0}
 AreApart (a ∷ []) [] = Unit {0}
 AreApart (a ∷ []) (b ∷ other) = are_joined a b ≡ false
 AreApart (a ∷ c ∷ bytes) other = AreApart (c ∷ bytes) other
+
+-- ---- where tokens begin and end
+
+-- how many bytes a token has that stands at the front
+abbrev pub size_of : Front → ℕ
+size_of (Whole kind n) = n
+size_of (Passed n) = 0
+size_of (Broken number) = 0
+
+-- where a token ends
+abbrev pub end_of : List ℕ → Token → ℕ
+end_of text t = t.at + size_of (front_of (drop t.at text))
+
+-- the place of the first token, and the end of the last
+abbrev pub begin_of : List Token → ℕ
+begin_of [] = 0
+begin_of (t ∷ ts) = t.at
+
+abbrev pub end_of_all : List ℕ → List Token → ℕ
+end_of_all text [] = 0
+end_of_all text (t ∷ []) = end_of text t
+end_of_all text (t ∷ u ∷ ts) = end_of_all text (u ∷ ts)

@@ -4,29 +4,18 @@ use Rattle.std.proofs.lemmas.List.{append-nil}
 use Rattle.smv_core.specs.declared.tree.Expr.{Expr}
 use Rattle.smv_core.specs.Notation.{Tokens, same_kind}
 use Rattle.smv_core.specs.Signs.{semicolon}
-use Rattle.smv_core.specs.declared.tree.Text.{Text}
-use Rattle.smv_core.specs.Grammar.{text_rule}
-use Rattle.smv_core.specs.Spelling.{Spells}
-use Rattle.law_places.specs.Placeless.{placeless, placeless_top, placeless_text}
+use Rattle.law_places.specs.Placeless.{placeless}
 use Rattle.law_spelled_alike.specs.Local.{kinds_of, AllKinds}
 use Rattle.law_grammar.specs.Laws.{SpellsExpr}
-use Rattle.law_spelled_alike.proofs.Expressions.{local-expression, each-map}
-use Rattle.law_spelled_alike.proofs.Texts.{T, plain, local-text}
+use Rattle.law_spelled_alike.proofs.Plain.{same-expression}
 
 pub spelled-alike : (n m : ℕ) → n ≤ m → (ts us : Tokens) (x : Expr) → SpellsExpr n ts x → kinds_of us ≡ kinds_of ts → (y : Expr) × SpellsExpr m us y × (placeless x ≡ placeless y)
 spelled-alike n m le ts us x h e =
-    let u = local-expression (λ k. Unit {0}) (λ k q. tt) n m le ts x [] h in
+    let u = same-expression (λ k. Unit {0}) (λ k q. tt) n m le ts x [] h in
     let v = u.again us [] (e ∙ ap kinds_of (u.split ∙ append-nil u.front)) in
     (v.0, subst (λ l. SpellsExpr m l v.0) (append-nil us) v.1, v.2)
 
 pub no-semicolon : (n : ℕ) (ts : Tokens) (x : Expr) → SpellsExpr n ts x → AllKinds (λ k. same_kind k semicolon ≡ false) ts
 no-semicolon n ts x h =
-    let u = local-expression (λ k. same_kind k semicolon ≡ false) (λ k q. q) n n (omega arith) ts x [] h in
+    let u = same-expression (λ k. same_kind k semicolon ≡ false) (λ k q. q) n n (omega arith) ts x [] h in
     subst (AllKinds (λ k. same_kind k semicolon ≡ false)) (sym (u.split ∙ append-nil u.front)) u.each
-
-pub texts-alike : (n m : ℕ) → n ≤ m → (ts us : Tokens) (x : Text) → Spells n ts x → kinds_of us ≡ kinds_of ts → (y : Text) × Spells m us y × (placeless_text x ≡ placeless_text y)
-unfolding Spells
-texts-alike n m le ts us x h e =
-    let u = local-text n m le ts x.tops [] h in
-    let v = u.again us [] (e ∙ ap kinds_of (u.split ∙ append-nil u.front)) in
-    (record { tops = v.0 }, subst (λ l. text_rule (λ at. 0) m l v.0 []) (append-nil us) v.1, ap (λ l. record { tops = l }) (each-map T plain placeless_top x.tops v.0 v.2))

@@ -1,6 +1,5 @@
 pub mod Combining
 pub mod PlacelessForms
 pub mod Expressions
-pub mod PlacelessStatements
-pub mod Texts
+pub mod Plain
 pub mod Alike

@@ -1,12 +1,10 @@
 -- The laws: what the crate's public functions say.
 use Rattle.std.specs.Prelude.{◌≡◌, ◌≤◌, ℕ, false}
 use Rattle.smv_core.specs.declared.tree.Expr.{Expr}
-use Rattle.smv_core.specs.declared.tree.Text.{Text}
 use Rattle.smv_core.specs.Signs.{semicolon}
 use Rattle.smv_core.specs.Notation.{Tokens, same_kind}
-use Rattle.smv_core.specs.Spelling.{Spells}
 use Rattle.law_grammar.specs.Laws.{SpellsExpr}
-use Rattle.law_places.specs.Placeless.{placeless, placeless_text}
+use Rattle.law_places.specs.Placeless.{placeless}
 use Rattle.law_spelled_alike.specs.Local.{kinds_of, AllKinds}
 
 -- tokens of the same kinds spell the same expression within as many levels or more, places aside
@@ -16,7 +14,3 @@ AreSpelledAlike = (n m : ℕ) → n ≤ m → (ts us : Tokens) (x : Expr) → Sp
 -- no expression has a `;`
 abbrev pub HasNoSemicolon : Type 0
 HasNoSemicolon = (n : ℕ) (ts : Tokens) (x : Expr) → SpellsExpr n ts x → AllKinds (λ k. same_kind k semicolon ≡ false) ts
-
--- tokens of the same kinds spell the same text within as many levels or more, but for places, splits and uses
-abbrev pub TextsAreSpelledAlike : Type 0
-TextsAreSpelledAlike = (n m : ℕ) → n ≤ m → (ts us : Tokens) (x : Text) → Spells n ts x → kinds_of us ≡ kinds_of ts → (y : Text) × Spells m us y × (placeless_text x ≡ placeless_text y)

@@ -1,0 +1,4 @@
+pub mod Renaming
+pub mod Replacement
+pub mod Laws
+pub mod WorkedBytes

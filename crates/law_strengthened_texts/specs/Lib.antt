@@ -1,0 +1,3 @@
+pub mod Stronger
+pub mod Laws
+pub mod Worked

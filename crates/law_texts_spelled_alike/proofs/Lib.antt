@@ -1,0 +1,3 @@
+pub mod PlacelessStatements
+pub mod Texts
+pub mod Alike
