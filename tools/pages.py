@@ -58,7 +58,7 @@ SCRIPT = re.compile(r"\b(?:sh|make)\b")
 MISTAKE = re.compile(r"deodarwrench prove < (\S+)|echo \"([^\"]*)\" \| deodarwrench prove")
 BLANKS = re.compile(r"printf '%(\d+)s' '' \| deodarwrench (\w+)")
 # One whose report a test can give the program of waveforms.
-WAVE = re.compile(r"(deodarwrench prove < \S+) \| smv_wave")
+WAVE = re.compile(r"(deodarwrench prove < \S+) \| smv_wave( table)?")
 # One that a test can give the program that looks at a text.
 LOOK = re.compile(r"smv_look ([^<|]+?) < (\S+)")
 # A command of which only the first lines are shown.
@@ -337,16 +337,17 @@ def table(module, pages):
 
 
 def dumps():
-    """Returns the module of tests of the dumps that the pages show: its file and its lines. The report of each is the answer of an earlier command."""
+    """Returns the module of tests of the dumps and tables that the pages show: its file and its lines. The report of each is the answer of an earlier command."""
     rows = []
     for _, _, commands in everything():
         answers = dict(commands)
         for command, dump in commands:
             shown = WAVE.fullmatch(command)
             if shown:
-                rows.append(row(['""', quoted(answers[shown[1]]), "0", quoted(dump), '""']))
+                words = (shown[2] or "").strip()
+                rows.append(row([quoted(words), quoted(answers[shown[1]]), "0", quoted(dump), '""']))
     lines = [
-        "//! The dumps that the pages show, beside the reports that they are made from. Written by `tools/pages.py --tests`.",
+        "//! The dumps and tables that the pages show, beside the reports that they are made from. Written by `tools/pages.py --tests`.",
         "",
         "use crate::rows::{Row, all_are_answered};",
         "use std::test::Fail;",
@@ -354,7 +355,7 @@ def dumps():
         *constant("ROWS: &[Row]", rows),
         "",
         "#[test]",
-        "fn dumps_are_those_of_the_pages(rt: HostRuntime) -> Result<(), Fail> {",
+        "fn answers_are_those_of_the_pages(rt: HostRuntime) -> Result<(), Fail> {",
         "    all_are_answered(rt.alloc(), ROWS)",
         "}",
     ]

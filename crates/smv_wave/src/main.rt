@@ -1,4 +1,4 @@
-//! The program `smv_wave`: a report of `prove` on standard input, a value change dump of its false units on standard output, and a note on standard error where there is none.
+//! The program `smv_wave`: a report of `prove` on standard input, and on standard output a value change dump of its false units, or by `table` their paths as tables; a note on standard error where there is none.
 //!
 //! It hands the words and the streams to `smv_wave_run::run`; what is proved of a run is said there.
 #![tactic(auto)]

@@ -7,8 +7,8 @@ use Rattle.smv_wave_run.specs.declared.Status.TheVariants.{Written, NoFalseUnit,
 use Rattle.smv_read_report.specs.declared.reading.FalseUnit.{FalseUnit}
 use Rattle.smv_read_report.specs.declared.reading.ReportFault.{ReportFault}
 use Rattle.smv_read_report.specs.Reports.{report_of}
-use Rattle.smv_waveforms.specs.Vcd.{vcd}
-use Rattle.smv_wave_run.specs.Dues.{Ends, Gave, Goes, IsDueTo, LeavesAlone, Sinks, answer_for, status_for}
+use Rattle.smv_wave_run.specs.declared.Form.{Form}
+use Rattle.smv_wave_run.specs.Dues.{Ends, Gave, Goes, IsDueTo, LeavesAlone, Sinks, answer_in, status_for, written_as}
 
 pub some_given : (left : Option (List ℕ)) → (text : List ℕ) × Gave left text
 some_given None = ([], tt)
@@ -21,20 +21,20 @@ is_answered WriteFault = false
 is_answered OutOfMemory = false
 is_answered _ = true
 
-whole : (bare : Bool) (text answer : List ℕ) (s : Sinks) (status : Status) → is_answered status ≡ true → IsDueTo bare text status answer → Goes status Appends s answer → Ends status bare text s
-whole bare text answer s Written is due goes = (answer, due, goes)
-whole bare text answer s NoFalseUnit is due goes = (answer, due, goes)
-whole bare text answer s Refused is due goes = (answer, due, goes)
-whole bare text answer s Usage is due goes = (answer, due, goes)
-whole bare text answer s ReadFault is due goes = absurd (true≢false (sym is))
-whole bare text answer s WriteFault is due goes = absurd (true≢false (sym is))
-whole bare text answer s OutOfMemory is due goes = absurd (true≢false (sym is))
+whole : (asked : Option Form) (text answer : List ℕ) (s : Sinks) (status : Status) → is_answered status ≡ true → IsDueTo asked text status answer → Goes status Appends s answer → Ends status asked text s
+whole asked text answer s Written is due goes = (answer, due, goes)
+whole asked text answer s NoFalseUnit is due goes = (answer, due, goes)
+whole asked text answer s Refused is due goes = (answer, due, goes)
+whole asked text answer s Usage is due goes = (answer, due, goes)
+whole asked text answer s ReadFault is due goes = absurd (true≢false (sym is))
+whole asked text answer s WriteFault is due goes = absurd (true≢false (sym is))
+whole asked text answer s OutOfMemory is due goes = absurd (true≢false (sym is))
 
 -- an answer was written whole, or a front of it
-pub finished : (bare : Bool) (text answer : List ℕ) (s : Sinks) (status result : Status) → is_answered status ≡ true → IsDueTo bare text status answer →
-    (result ≡ status → Goes status Appends s answer) → (result ≡ WriteFault → Goes status TookFront s answer) → (result ≡ status) ⊎ (result ≡ WriteFault) → Ends result bare text s
-finished bare text answer s status result is due taken front (inl same) = subst (λ r. Ends r bare text s) (sym same) (whole bare text answer s status is due (taken same))
-finished bare text answer s status result is due taken front (inr fault) = subst (λ r. Ends r bare text s) (sym fault) (status, answer, due, front fault)
+pub finished : (asked : Option Form) (text answer : List ℕ) (s : Sinks) (status result : Status) → is_answered status ≡ true → IsDueTo asked text status answer →
+    (result ≡ status → Goes status Appends s answer) → (result ≡ WriteFault → Goes status TookFront s answer) → (result ≡ status) ⊎ (result ≡ WriteFault) → Ends result asked text s
+finished asked text answer s status result is due taken front (inl same) = subst (λ r. Ends r asked text s) (sym same) (whole asked text answer s status is due (taken same))
+finished asked text answer s status result is due taken front (inr fault) = subst (λ r. Ends r asked text s) (sym fault) (status, answer, due, front fault)
 
 -- ---- what is left alone
 
@@ -83,21 +83,21 @@ pub none_status : (units : List FalseUnit) → length units ≡ 0 → status_for
 none_status [] none = refl
 none_status (unit ∷ units) none = absurd (omega arith)
 
-pub none_answer : (units : List FalseUnit) → length units ≡ 0 → answer_for (Ok units) ≡ codes "no false unit" ++ 10 ∷ []
-none_answer [] none = refl
-none_answer (unit ∷ units) none = absurd (omega arith)
+pub none_answer : (form : Form) (units : List FalseUnit) → length units ≡ 0 → answer_in form (Ok units) ≡ codes "no false unit" ++ 10 ∷ []
+none_answer form [] none = refl
+none_answer form (unit ∷ units) none = absurd (omega arith)
 
 pub some_status : (units : List FalseUnit) → 0 < length units → status_for (Ok units) ≡ Written
 some_status [] some = absurd (omega arith)
 some_status (unit ∷ units) some = refl
 
-pub some_answer : (units : List FalseUnit) → 0 < length units → answer_for (Ok units) ≡ vcd units
-some_answer [] some = absurd (omega arith)
-some_answer (unit ∷ units) some = refl
+pub some_answer : (form : Form) (units : List FalseUnit) → 0 < length units → answer_in form (Ok units) ≡ written_as form units
+some_answer form [] some = absurd (omega arith)
+some_answer form (unit ∷ units) some = refl
 
 -- a text under which an answer is due: that which is due to what is read of it
-pub due_to : (text slice answer bytes : List ℕ) (status : Status) → slice ≡ text → status ≡ status_for (report_of slice) → bytes ≡ answer_for (report_of slice) → answer ≡ bytes → IsDueTo true text status answer
-due_to text slice answer bytes status same told written read = rw (← same) (told, read ∙ written)
+pub due_to : (form : Form) (text slice answer bytes : List ℕ) (status : Status) → slice ≡ text → status ≡ status_for (report_of slice) → bytes ≡ answer_in form (report_of slice) → answer ≡ bytes → IsDueTo (Some form) text status answer
+due_to form text slice answer bytes status same told written read = rw (← same) (told, read ∙ written)
 
 pub is_told : (text : List ℕ) (status : Status) → status ≡ status_for (report_of text) → is_answered status ≡ true
 is_told text status told = rw told (answered_for (report_of text))

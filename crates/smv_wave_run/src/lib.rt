@@ -1,33 +1,44 @@
-//! The call of the program `smv_wave`: from the bytes of a source, a report of `prove`, to the dump of its false units, or to a note that says why there is none.
+//! The call of the program `smv_wave`: from the bytes of a source, a report of `prove`, to the dump of its false units, or to the tables of their paths, or to a note that says why there is none.
 //!
-//! For the program, which hands over its streams. `specs/Dues` says which answer is due, to which sink it goes, and how a call ends; the dump is that of `smv_waveforms`' `specs/Vcd`, and what a report is,
-//! `smv_read_report`'s `specs/Reports` says.
+//! For the program, which hands over its streams. `specs/Dues` says which answer is due, to which sink it goes, and how a call ends; the dump is that of `smv_waveforms`' `specs/Vcd`, a table that of
+//! `smv_path_tables`' `specs/Tables`, and what a report is, `smv_read_report`'s `specs/Reports` says.
 #![tactic(auto)]
 
-ghost use Rattle.std.specs.Prelude.{◌≡◌, ◌≢◌, ◌⊎◌, ◌==◌, ◌++◌, List, ℕ, length, true, false, Ok, IfOk, OnOk};
+ghost use Rattle.std.specs.Prelude.{◌≡◌, ◌≢◌, ◌⊎◌, ◌++◌, List, ℕ, map, None, Ok, Some, IfOk, OnOk};
 ghost use Rattle.std.specs.Fmt.{decimal};
+ghost use Rattle.std.specs.String.{string_bytes};
 ghost use Rattle.std.specs.Io.KnownBytes.{Appends};
 ghost use Rattle.smv_io.specs.Causes.{Rose};
 ghost use Rattle.smv_io.specs.Transfers.{TookFront};
 ghost use Rattle.smv_read_report.specs.Reports.{report_of};
-ghost use Rattle.smv_wave_run.specs.Dues.{Ends, Gave, Goes, LeavesAlone, answer_for, fault_line, number_of, status_for};
+ghost use Rattle.smv_wave_run.specs.Dues.{Ends, Gave, Goes, LeavesAlone, answer_in, fault_line, form_of, number_of, status_for, written_as};
 
 use itoa::Buffer;
 use smv_io::{ReadError, Sink, Source, read_all, write_all};
+use smv_path_tables::path_tables;
 use smv_read_report::{FalseUnit, ReadFailure, ReportFault, false_units};
 use smv_waveforms::vcd;
 use std::alloc::{AllocError, Global};
 
+/// How the paths of a report are written.
+#[derive(Clone, Copy)]
+enum Form {
+    /// As waveforms.
+    Dump,
+    /// As tables.
+    Table,
+}
+
 /// How a call ended.
 #[derive(Clone, Copy, Debug, PartialEq, Eq)]
 pub enum Status {
-    /// The dump was written.
+    /// The dump or the tables were written.
     Written,
     /// The text is a report, and none of its units is false.
     NoFalseUnit,
     /// The text is no report.
     Refused,
-    /// There are words, and none is taken.
+    /// The words are none that are taken.
     Usage,
     /// The source failed in this call.
     ReadFault,
@@ -59,7 +70,7 @@ const LIMIT: usize = usize::MAX;
 
 const NONE: &[u8] = b"no false unit\n";
 
-const USAGE: &[u8] = b"usage: smv_wave < REPORT > FILE\n";
+const USAGE: &[u8] = b"usage: smv_wave [table] < REPORT > FILE\n";
 
 // A status with the bytes that are written under it.
 #[derive(Drop)]
@@ -68,7 +79,7 @@ struct Answer {
     bytes: Vec<u8>,
 }
 
-/// Reads a report from the source, and then writes the dump of its false units to the one sink, or a note of one line to the other.
+/// Reads a report from the source, and then writes the dump of its false units to the one sink, under the word `table` the tables of their paths, or a note of one line to the other.
 ///
 /// The words are those behind the program's name. Under `ReadFault` and `OutOfMemory` nothing is written, and under `WriteFault` a front of the answer.
 pub fn run<S: Source, K: Sink, N: Sink>(
@@ -79,31 +90,48 @@ pub fn run<S: Source, K: Sink, N: Sink>(
     notes: &mut N,
 ) -> Status
     // The status is the one to which the answer is due, and its sink took that answer.
-    ensures ends { (text : List ℕ) × Gave (S.left source.old) text × Ends result (length words.now == 0) text (record { dump_old = K.taken dump.old; dump_new = K.taken dump.new; note_old = N.taken notes.old; note_new = N.taken notes.new }) }
+    ensures ends { (text : List ℕ) × Gave (S.left source.old) text × Ends result (form_of (map string_bytes words.now)) text (record { dump_old = K.taken dump.old; dump_new = K.taken dump.new; note_old = N.taken notes.old; note_new = N.taken notes.new }) }
 
     // A fault comes only where a count rose in this call.
     ensures read_fault { result ≡ Status.ReadFault → Rose (S.faults source.old) (S.faults source.new) }
     ensures write_fault { result ≡ Status.WriteFault → Rose (K.faults dump.old) (K.faults dump.new) ⊎ Rose (N.faults notes.old) (N.faults notes.new) }
 
-    // Words leave the source alone, an answer the sink to which it does not go, and a call without an answer both sinks.
-    ensures unread { (length words.now == 0) ≡ false → source.new ≡ source.old }
+    // Other words leave the source alone, an answer the sink to which it does not go, and a call without an answer both sinks.
+    ensures unread { form_of (map string_bytes words.now) ≡ None → source.new ≡ source.old }
     ensures alone { LeavesAlone result dump.old dump.new notes.old notes.new }
 {
-    if words.is_empty() {
-        of_source(alloc, source, dump, notes)
-    } else {
-        finish(dump, notes, USAGE, Status::Usage)
+    match form_of(words) {
+        Some(form) => of_source(alloc, form, source, dump, notes),
+        None => finish(dump, notes, USAGE, Status::Usage),
     }
 }
 
-// The call without words.
+// What the words ask for.
+fn form_of(words: &[String]) -> Option<Form>
+    ensures { result ≡ form_of (map string_bytes words.now) }
+{
+    match words {
+        [] => Some(Form::Dump),
+        [word] => {
+            if word.as_bytes() == b"table".as_slice() {
+                Some(Form::Table)
+            } else {
+                None
+            }
+        }
+        _ => None,
+    }
+}
+
+// The call in one form.
 fn of_source<S: Source, K: Sink, N: Sink>(
     alloc: Global,
+    form: Form,
     source: &mut S,
     dump: &mut K,
     notes: &mut N,
 ) -> Status
-    ensures ends { (text : List ℕ) × Gave (S.left source.old) text × Ends result true text (record { dump_old = K.taken dump.old; dump_new = K.taken dump.new; note_old = N.taken notes.old; note_new = N.taken notes.new }) }
+    ensures ends { (text : List ℕ) × Gave (S.left source.old) text × Ends result (Some form) text (record { dump_old = K.taken dump.old; dump_new = K.taken dump.new; note_old = N.taken notes.old; note_new = N.taken notes.new }) }
     ensures read_fault { result ≡ Status.ReadFault → Rose (S.faults source.old) (S.faults source.new) }
     ensures write_fault { result ≡ Status.WriteFault → Rose (K.faults dump.old) (K.faults dump.new) ⊎ Rose (N.faults notes.old) (N.faults notes.new) }
     ensures alone { LeavesAlone result dump.old dump.new notes.old notes.new }
@@ -112,7 +140,7 @@ fn of_source<S: Source, K: Sink, N: Sink>(
         Err(ReadError::ReadFault) => Status::ReadFault,
         Err(ReadError::OutOfMemory) => Status::OutOfMemory,
         Err(ReadError::TooLong) => Status::OutOfMemory,
-        Ok(text) => match answer_to(alloc, &text) {
+        Ok(text) => match answer_to(alloc, form, &text) {
             Ok(due) => finish(dump, notes, &due.bytes, due.status),
             Err(_) => Status::OutOfMemory,
         },
@@ -120,12 +148,12 @@ fn of_source<S: Source, K: Sink, N: Sink>(
 }
 
 // The answer to a text.
-fn answer_to(alloc: Global, text: &[u8]) -> Result<Answer, AllocError>
+fn answer_to(alloc: Global, form: Form, text: &[u8]) -> Result<Answer, AllocError>
     ensures status { IfOk result (λ answer. answer.status ≡ status_for (report_of text.now)) }
-    ensures bytes { IfOk result (λ answer. answer.bytes.items ≡ answer_for (report_of text.now)) }
+    ensures bytes { IfOk result (λ answer. answer.bytes.items ≡ answer_in form (report_of text.now)) }
 {
     match false_units(alloc, text) {
-        Ok(units) => answer_of(alloc, units.as_slice()),
+        Ok(units) => answer_of(alloc, form, units.as_slice()),
         Err(ReadFailure::Fault(fault)) => refused(alloc, fault),
         Err(ReadFailure::OutOfMemory) => Err(AllocError),
     }
@@ -133,18 +161,28 @@ fn answer_to(alloc: Global, text: &[u8]) -> Result<Answer, AllocError>
 
 // The answer to a report with these false units.
 #[tactic(auto, using(crate::proofs::Endings::none_status, crate::proofs::Endings::none_answer, crate::proofs::Endings::some_status, crate::proofs::Endings::some_answer))]
-fn answer_of(alloc: Global, units: &[FalseUnit]) -> Result<Answer, AllocError>
+fn answer_of(alloc: Global, form: Form, units: &[FalseUnit]) -> Result<Answer, AllocError>
     ensures status { IfOk result (λ answer. answer.status ≡ status_for (Ok units.now)) }
-    ensures bytes { IfOk result (λ answer. answer.bytes.items ≡ answer_for (Ok units.now)) }
+    ensures bytes { IfOk result (λ answer. answer.bytes.items ≡ answer_in form (Ok units.now)) }
 {
     if units.is_empty() {
         let bytes = Vec::from_slice(alloc, NONE)?;
         let status = Status::NoFalseUnit;
         return Ok(Answer { status, bytes });
     }
-    let bytes = vcd(alloc, units)?;
+    let bytes = written_as(alloc, form, units)?;
     let status = Status::Written;
     Ok(Answer { status, bytes })
+}
+
+// False units in a form.
+fn written_as(alloc: Global, form: Form, units: &[FalseUnit]) -> Result<Vec<u8>, AllocError>
+    ensures { IfOk result (λ bytes. bytes.items ≡ written_as form units.now) }
+{
+    match form {
+        Form::Dump => vcd(alloc, units),
+        Form::Table => path_tables(alloc, units),
+    }
 }
 
 // The answer to a text that is no report.

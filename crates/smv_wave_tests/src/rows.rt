@@ -11,11 +11,24 @@ const REPORT: &str =
 const DUMP: &str =
     "$version smv_wave $end\n$timescale 1 ns $end\n$scope module p $end\n$comment case #0 $end\n$var wire 1 ! x $end\n$var string 1 \" y $end\n$upscope $end\n$enddefinitions $end\n#0\n$dumpvars\n0!\nsred \"\n$end\n#1\n1!\n#2\n";
 
+const TABLE: &str = "p: false at 1\n case #0\n      0    1\n x    0    1\n y  red    .\n";
+
+// Two units, of which one has neither a case nor elements; and names and values of several lengths.
+const LONGER: &str =
+    "p: false at 0\n time 0:\nq//l: false at 2\n case #0, *\n time 0: a = 9, long[#0] = 0\n time 1: a = 10, long[#0] = 0\n time 2: a = 9, long[#0] = 1\nproved 0 of 2\n";
+
+const LONGER_TABLES: &str =
+    "p: false at 0\n   0\nq//l: false at 2\n case #0, *\n            0   1   2\n a          9  10   9\n long[#0]   0   .   1\n";
+
 // The words, the report, the exit status, what is dumped and what is noted.
 pub type Row = (&'static str, &'static str, u8, &'static str, &'static str);
 
 const ROWS: &[Row] = &[
     ("", REPORT, 0, DUMP, ""),
+    ("table", REPORT, 0, TABLE, ""),
+    ("table", LONGER, 0, LONGER_TABLES, ""),
+    ("table", "proved 0 of 0\n", 1, "", "no false unit\n"),
+    ("table", "x\n", 3, "", "fault 1 at line 1\n"),
     (
         "",
         "p: true\nq: unknown steps\nproved 1 of 2\n",
@@ -60,10 +73,22 @@ const STREAM_ROWS: &[(Streams, Row)] = &[
             REPORT,
             4,
             "",
-            "usage: smv_wave < REPORT > FILE\n",
+            "usage: smv_wave [table] < REPORT > FILE\n",
+        ),
+    ),
+    (
+        (Some(0), 2000),
+        (
+            "table table",
+            REPORT,
+            4,
+            "",
+            "usage: smv_wave [table] < REPORT > FILE\n",
         ),
     ),
     ((Some(0), 2000), ("", REPORT, 5, "", "")),
+    ((Some(0), 2000), ("table", REPORT, 5, "", "")),
+    ((None, 7), ("table", REPORT, 6, "p: fals", "")),
     ((None, 7), ("", REPORT, 6, "$versio", "")),
     ((None, 7), ("", "x\n", 6, "", "fault 1")),
 ];

@@ -1,5 +1,5 @@
 -- Nothing is read, or the answer to what is read is written.
-use Rattle.std.proofs.Common.{true}
+use Rattle.std.proofs.Common.{Some}
 use Rattle.std.proofs.KnownBytes.{Keeps-refl}
 use Rattle.smv_wave_run.proofs.Endings.{due_to, finished, is_told, left_alone, some_given}
 use Rattle.smv_wave_run.proofs.of_source.Goals as goal
@@ -20,7 +20,7 @@ returns-in-Ok-answer_to-clause-ends g c =
     let told = c.in-Ok-answer_to.ensures in (
       text,
       c.in-Ok.ensures.all,
-      finished true text _ _ _ _ (is_told _ _ told.status) (due_to text _ _ _ _ c.deref.ensures.value told.status told.bytes c.deref-in-Ok-answer_to.ensures.value) f.taken f.front f.either,
+      finished (Some c.args.form) text _ _ _ _ (is_told _ _ told.status) (due_to c.args.form text _ _ _ _ c.deref.ensures.value told.status told.bytes c.deref-in-Ok-answer_to.ensures.value) f.taken f.front f.either,
     )
 
 pub returns-in-Ok-answer_to-clause-alone : goal.returns-in-Ok-answer_to-clause-alone
