@@ -71,7 +71,7 @@ NO_CASE = re.compile(r"\S+: cases \d+\n")
 
 def status(command, answer):
     """Returns the exit status that stands beside an answer."""
-    if HEAD.search(command):
+    if HEAD.search(command) or WAVE.search(command):
         return 0
     if answer.startswith("fault "):
         return 3
