@@ -1,11 +1,13 @@
 #!/usr/bin/env python3
-"""Random designs of three bits, decided by the program and by brute force.
+"""Random designs, decided by the program under several settings: those of three bits by brute force too, wider ones by the settings alone.
 
-    tools/random_designs.py PROGRAM [--seed N] [--count N]
+    tools/random_designs.py PROGRAM [--seed N] [--count N] [--words WORDS ..] [--wide]
 
-Each design has boolean signals a, b and c, each with a value of now, or with `init` and `next` (some under an `if`, some without one), right sides with sets and
+Each design of three bits has boolean signals a, b and c, each with a value of now, or with `init` and `next` (some under an `if`, some without one), right sides with sets and
 conditionals, and one claim. All eight states are gone through from the definitions of the language alone; the verdict and the length of a shortest path have to be
-those that PROGRAM writes. Designs that the program refuses are left out. It ends with status 1 where an answer differs.
+those that PROGRAM writes, under each of the WORDS that are given (`--words "--bits declared" "--bits near --nodes 40"`; none where there are none).
+With --wide designs have booleans, numbers, arrays and a scalarset, and two claims; what PROGRAM writes under each of the words has to be the same for each claim, verdicts and lengths.
+A claim that is unknown under some words is compared under the others alone. Designs that the program refuses are left out. It ends with status 1 where an answer differs.
 """
 import argparse
 import itertools
@@ -136,24 +138,113 @@ def by_brute_force(begins, follows, claim):
     return "true"
 
 
+BITS = ["p0", "p1", "p2", "f[0]", "f[1]", "f[2]"]
+NUMBERS = ["n0", "n1", "g[0]", "g[1]"]
+WIDE = """scalarset P undefined;
+module main() {
+  p0, p1, p2 : boolean;
+  g : array 0..1 of 0..3;
+  f : array 0..2 of boolean;
+  n0, n1 : 0..3;
+  d : P;
+  x : array P of boolean;
+"""
+
+
+def bit_value(depth, known):
+    """Returns a truth value as text, of the elements that are known."""
+    bits = [name for name in BITS if name in known]
+    kind = random.random()
+    if depth == 0 or kind < 0.15:
+        return random.choice([*bits, *bits, "0", "1"])
+    if kind < 0.3:
+        return f"~({bit_value(depth - 1, known)})"
+    if kind < 0.55:
+        return f"({bit_value(depth - 1, known)} {random.choice(list(SIGNS))} {bit_value(depth - 1, known)})"
+    if kind < 0.75:
+        return f"({number_value(depth - 1, known)} {random.choice(['=', '~=', '<', '<=', '>'])} {number_value(depth - 1, known)})"
+    if kind < 0.85 and all(name in known for name in BITS[3:]):
+        return random.choice([f"f[{number_value(depth - 1, known)} mod 3]", "&[ f[i] : i in 0..2 ]", f"|[ f[i] & n0 = i : i in 0..2 ]" if "n0" in known else "|[ f[i] : i in 0..2 ]"])
+    if kind < 0.9 and "x" in known:
+        return "x[d]" if "d" in known else "0"
+    return f"({bit_value(depth - 1, known)} ? {bit_value(depth - 1, known)} : {bit_value(depth - 1, known)})"
+
+
+def number_value(depth, known):
+    """Returns a number as text, most often below 4."""
+    numbers = [name for name in NUMBERS if name in known]
+    kind = random.random()
+    if depth == 0 or kind < 0.2:
+        return random.choice([*numbers, *numbers, str(random.randrange(4))])
+    if kind < 0.5:
+        return f"(({number_value(depth - 1, known)} + {number_value(depth - 1, known)}) mod 4)"
+    if kind < 0.7:
+        return f"(({bit_value(0, known)} ? 1 : 0) + ({bit_value(0, known)} ? 2 : 0))"
+    if kind < 0.8 and all(name in known for name in NUMBERS[2:]):
+        return f"g[{number_value(depth - 1, known)} mod 2]"
+    return f"({bit_value(depth - 1, known)} ? {number_value(depth - 1, known)} : {number_value(depth - 1, known)})"
+
+
+def wide_design():
+    """Returns a text with numbers, arrays, a scalarset and two claims."""
+    names = [*BITS, *NUMBERS, "d", "x"]
+    order = random.sample(names, len(names))
+    text = WIDE
+    for place, name in enumerate(order):
+        value = bit_value if name in BITS else number_value
+        kind = random.random()
+        if name == "x":
+            text += random.choice(["", "  forall (i in P) { init(x[i]) := 0; if (d = i) next(x[i]) := ~x[i]; }\n", "  next(x[d]) := 1;\n", "  forall (i in P) x[i] := d = i;\n" if "d" in order[:place] else ""])
+        elif name == "d":
+            text += random.choice(["", "  next(d) := d;\n"])
+        elif kind < 0.45:
+            text += f"  {name} := {value(2, order[:place])};\n"
+        elif kind < 0.9:
+            if random.random() < 0.8:
+                text += f"  init({name}) := {value(1, order[:place])};\n"
+            guard = f"if ({bit_value(1, names)}) " if random.random() < 0.3 else ""
+            text += f"  {guard}next({name}) := {value(2, names)};\n"
+    return text + f"  p : assert G ({bit_value(3, names)});\n  q : assert G ({bit_value(3, names)});\n}}\n"
+
+
+def verdicts(program, words, text):
+    """The verdict of each unit that a run tells, or none where the text is refused."""
+    run = subprocess.run([program, "prove", *words.split()], input=text.encode(), capture_output=True)
+    if run.returncode == 3:
+        return None
+    if run.returncode not in (0, 1, 2):
+        sys.exit(f"{text}\nstatus {run.returncode} under '{words}'")
+    return dict(re.findall(r"^(\w+): (true|false at \d+|unknown)", run.stdout.decode(), re.MULTILINE))
+
+
+def compare(text, answers):
+    """Ends where two answers tell a unit two ways; unknown is none of them."""
+    for (words, one), (others, other) in itertools.combinations(answers, 2):
+        for unit, told in one.items():
+            if "unknown" not in (told, other.get(unit, "unknown")) and told != other[unit]:
+                sys.exit(f"{text}\n{unit}: {told} by '{words}'\n{unit}: {other[unit]} by '{others}'")
+
+
 def main():
     words = argparse.ArgumentParser(description=__doc__.split("\n")[0])
     words.add_argument("program")
     words.add_argument("--seed", type=int, default=1)
     words.add_argument("--count", type=int, default=500)
+    words.add_argument("--words", nargs="+", default=[""])
+    words.add_argument("--wide", action="store_true")
     asked = words.parse_args()
     random.seed(asked.seed)
-    compared = 0
+    compared, told = 0, [0] * len(asked.words)
     for _ in range(asked.count):
-        text, *tests = design()
-        run = subprocess.run([asked.program, "prove"], input=text.encode(), capture_output=True)
-        if run.returncode == 3:
+        text, *tests = (wide_design(),) if asked.wide else design()
+        answers = [(setting, verdicts(asked.program, setting, text)) for setting in asked.words]
+        if answers[0][1] is None:
             continue
         compared += 1
-        told, found = run.stdout.decode().split("\n")[0], "p: " + by_brute_force(*tests)
-        if told != found:
-            sys.exit(f"{text}\ntold  {told} (status {run.returncode})\nfound {found}")
-    print(f"{compared} designs compared, {asked.count - compared} refused")
+        told = [count + sum(verdict != "unknown" for verdict in found.values()) for count, (_, found) in zip(told, answers)]
+        compare(text, answers if asked.wide else [*answers, ("brute force", {"p": by_brute_force(*tests)})])
+    counts = ", ".join(f"{count} claims decided" + (f" under '{setting}'" if setting else "") for setting, count in zip(asked.words, told))
+    print(f"{compared} designs compared, {asked.count - compared} refused; {counts}")
 
 
 if __name__ == "__main__":

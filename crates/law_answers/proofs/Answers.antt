@@ -3,10 +3,12 @@ use Rattle.std.proofs.Common.{◌≡◌, ◌∙◌, ℕ, Bool, true, false, List
 use Rattle.std.specs.Prelude.{if◌then◌else◌}
 use Rattle.std.specs.List.{list_any}
 use Rattle.smv_core.specs.declared.tree.Text.{Text}
+use Rattle.smv_bits.specs.declared.Bits.{Bits}
 use Rattle.smv_problem.specs.declared.report.Verdict.{Verdict}
 use Rattle.smv_problem.specs.declared.report.Verdict.TheVariants as verdict
 use Rattle.smv_problem.specs.declared.report.Report.{Report}
 use Rattle.law_reports.specs.Reports.{AllTrueUnits, told_of}
+use Rattle.law_reports.specs.Verdicts.{AreOneEach}
 use Rattle.smv_parse.specs.Laws.{IsNotBoth, IsOneFault}
 use Rattle.smv_command.specs.declared.commands.Command.{Command}
 use Rattle.smv_command.specs.declared.commands.Command.TheVariants.{Prove, Only, Print, Generated, Proof, Check, Resume, Confirm}
@@ -20,10 +22,12 @@ use Rattle.law_judgements.specs.Judgements.{Judgement}
 use Rattle.law_judgements.specs.Judgements.Judgement.{yes, form, design, set}
 use Rattle.law_document_answers.specs.Laws.{OneDocumentStatus}
 use Rattle.law_document_answers.specs.Dues.{IsDocumentDue, documented, open_report, refused_text, too_long_to_check, judged, refused_design, too_long_to_resume, not_old, refused_new, resumed, open_resumed, status_by}
-use Rattle.law_document_answers.proofs.Statuses.{same_status, true_units}
+use Rattle.law_document_answers.proofs.Statuses.{true_units}
 use Rattle.law_answers.specs.Confirmations.{confirmed_status}
+use Rattle.law_answers.specs.Laws.{is_open}
+use Rattle.law_answers.proofs.Open.{status_alike}
 use Rattle.law_answers.proofs.Confirmed.{not_confirmed, same_status_of, told_once}
-use Rattle.law_answers.specs.Dues.{IsDue, IsDueTo, IsFault, IsReportFor, confirmed, decided, default_nodes, default_steps, faulty, is_false, is_of_documents, is_unknown, malformed, of_documents, of_unit, printed, proved_by, refused, status_of, text_for, too_long, unnamed}
+use Rattle.law_answers.specs.Dues.{IsDue, IsDueTo, IsFault, IsReportFor, bits_of, confirmed, decided, default_bits, default_nodes, default_steps, faulty, is_false, is_of_documents, is_unknown, malformed, of_documents, of_unit, printed, proved_by, refused, status_of, text_for, too_long, unnamed}
 
 -- ---- all is proved
 
@@ -45,8 +49,8 @@ all_proved proved report e = go (list_any (λ u. is_false u.verdict) report.unit
 -- ---- not both
 
 pub valid_text : (command : Command) (text : List ℕ) (report : Report) → IsReportFor command text report → (tree : Text) × IsValid text tree
-valid_text (Prove budgets) text report is = (is.0, is.1)
-valid_text (Only name budgets) text report is = (is.0, is.1)
+valid_text (Prove bits budgets) text report is = (is.0, is.1)
+valid_text (Only name bits budgets) text report is = (is.0, is.1)
 valid_text Print text report is = absurd is
 valid_text (Generated copies) text report is = (is.0, is.1)
 valid_text (Proof budgets) text report is = absurd is
@@ -59,16 +63,16 @@ pub of_ones : (command : Command) (text : List ℕ) (due : Status) (answer : Lis
 of_ones (Proof budgets) text due answer is = refl
 of_ones Check text due answer is = refl
 of_ones (Resume budgets) text due answer is = refl
-of_ones (Prove budgets) text due answer is = elim is [ ]
-of_ones (Only name budgets) text due answer is = elim is [ ]
+of_ones (Prove bits budgets) text due answer is = elim is [ ]
+of_ones (Only name bits budgets) text due answer is = elim is [ ]
 of_ones Print text due answer is = elim is [ ]
 of_ones (Generated copies) text due answer is = elim is [ ]
 of_ones (Confirm name sizes budgets) text due answer is = elim is [ ]
 
 -- and no command on documents asks for a report
 pub of_others : (command : Command) (text : List ℕ) (report : Report) → IsReportFor command text report → is_of_documents command ≡ true → ⊥
-of_others (Prove budgets) text report is e = true≢false (sym e)
-of_others (Only name budgets) text report is e = true≢false (sym e)
+of_others (Prove bits budgets) text report is e = true≢false (sym e)
+of_others (Only name bits budgets) text report is e = true≢false (sym e)
 of_others Print text report is e = is
 of_others (Generated copies) text report is e = true≢false (sym e)
 of_others (Proof budgets) text report is e = is
@@ -90,7 +94,7 @@ module _ (not_both : IsNotBoth) (one_fault : IsOneFault) (one_tree : OneTree) (e
       let both = sym (subst (λ (t : Text). pass_fault t ≡ Some fault) same found) ∙ valid.1.is_faultless in
       let bad : ⊥ = cc in
       bad
-  not_faulty _ text report _ _ is (unnamed name nodes steps none) = either text name nodes steps report is none
+  not_faulty _ text report _ _ is (unnamed name bits nodes steps none) = either text name bits nodes steps report is none
   not_faulty _ text report _ _ is (of_unit name sizes budgets number at fault) = is
 
   not_printed : (text : List ℕ) (tree : Text) (number at : ℕ) → IsTree text tree → IsFault Print text number at → ⊥
@@ -101,55 +105,56 @@ module _ (not_both : IsNotBoth) (one_fault : IsOneFault) (one_tree : OneTree) (e
   not_printed text tree _ _ is (faulty other fault deciding is_tree found) = true≢false (sym deciding)
 
   module _ (one_report : OneReport) (one_unit : OneUnitReport) (one_document : OneDocumentStatus) where
-    told_alike : (command : Command) (text : List ℕ) (report other : Report) → IsReportFor command text report → IsReportFor command text other → told_of report.units ≡ told_of other.units
-    told_alike (Prove budgets) text report other is is_other = one_report text budgets.nodes budgets.steps report other is is_other
-    told_alike (Only name budgets) text report other is is_other = one_unit text name budgets.nodes budgets.steps report other is is_other
+    told_alike : (command : Command) (text : List ℕ) (report other : Report) → IsReportFor command text report → IsReportFor command text other → AreOneEach (bits_of command) (told_of report.units) (told_of other.units)
+    told_alike (Prove bits budgets) text report other is is_other = one_report text bits budgets.nodes budgets.steps report other is is_other
+    told_alike (Only name bits budgets) text report other is is_other = one_unit text name bits budgets.nodes budgets.steps report other is is_other
     told_alike Print text report other is is_other = absurd is
-    told_alike (Generated copies) text report other is is_other = one_report text default_nodes default_steps report other is is_other
+    told_alike (Generated copies) text report other is is_other = one_report text default_bits default_nodes default_steps report other is is_other
     told_alike (Proof budgets) text report other is is_other = absurd is
     told_alike Check text report other is is_other = absurd is
     told_alike (Resume budgets) text report other is is_other = absurd is
     told_alike (Confirm name sizes budgets) text report other is is_other = absurd is
 
-    pub one_due : (command : Command) (text : List ℕ) (due other : Status) (answer another : List ℕ) → IsDue command text due answer → IsDue command text other another → due ≡ other
-    one_due command text _ _ _ _ (decided report is) (decided another is_another) = same_status (proved_by command) report another (told_alike command text report another is is_another)
-    one_due command text _ _ _ _ (decided report is) (refused number at other fault) = absurd (not_faulty command text report number at is fault)
-    one_due _ text _ _ _ _ (decided report is) (printed tree is_tree) = absurd is
-    one_due command text _ other _ another (decided report is) (of_documents due) = absurd (of_others command text report is (of_ones command text other another due))
-    one_due _ text _ _ _ _ (printed tree is_tree) (decided report is) = absurd is
-    one_due _ text _ _ _ _ (printed tree is_tree) (printed other is_other) = refl
-    one_due _ text _ _ _ _ (printed tree is_tree) (refused number at other fault) = absurd (not_printed text tree number at is_tree fault)
-    one_due _ text _ other _ another (printed tree is_tree) (of_documents due) = absurd (true≢false (sym (of_ones Print text other another due)))
-    one_due command text _ _ _ _ (refused number at other fault) (decided report is) = absurd (not_faulty command text report number at is fault)
-    one_due _ text _ _ _ _ (refused number at other fault) (printed tree is_tree) = absurd (not_printed text tree number at is_tree fault)
-    one_due command text _ _ _ _ (refused number at other fault) (refused place where_at another fault_too) = refl
-    one_due command text _ other _ another (refused number at not fault) (of_documents due) = absurd (true≢false (sym (of_ones command text other another due) ∙ not))
-    one_due command text due _ answer _ (of_documents is) (decided report is_report) = absurd (of_others command text report is_report (of_ones command text due answer is))
-    one_due _ text due _ answer _ (of_documents is) (printed tree is_tree) = absurd (true≢false (sym (of_ones Print text due answer is)))
-    one_due command text due _ answer _ (of_documents is) (refused number at not fault) = absurd (true≢false (sym (of_ones command text due answer is) ∙ not))
-    one_due command text due other answer another (of_documents is) (of_documents is_other) = one_document command text due other answer another is is_other
-    one_due _ text _ _ _ _ (decided report is) (confirmed name sizes budgets tree unit v valid called is_other) = absurd is
-    one_due _ text _ _ _ _ (refused number at not fault) (confirmed name sizes budgets tree unit v valid called is) = absurd (not_confirmed not_both one_fault one_tree text name sizes budgets v number at is fault)
-    one_due _ text due _ answer _ (of_documents is) (confirmed name sizes budgets tree unit v valid called is_other) = absurd (true≢false (sym (of_ones (Confirm name sizes budgets) text due answer is)))
-    one_due _ text _ _ _ _ (confirmed name sizes budgets tree unit v valid called is) (decided report is_other) = absurd is_other
-    one_due _ text _ _ _ _ (confirmed name sizes budgets tree unit v valid called is) (refused number at not fault) = absurd (not_confirmed not_both one_fault one_tree text name sizes budgets v number at is fault)
-    one_due _ text _ other _ another (confirmed name sizes budgets tree unit v valid called is) (of_documents is_other) = absurd (true≢false (sym (of_ones (Confirm name sizes budgets) text other another is_other)))
-    one_due _ text _ _ _ _ (confirmed name sizes budgets tree unit v valid called is) (confirmed _ _ _ tree_too unit_too w valid_too called_too is_other) =
+    pub one_due : (command : Command) (text : List ℕ) (due other : Status) (answer another : List ℕ) → IsDue command text due answer → IsDue command text other another → is_open (bits_of command) due ≡ false → is_open (bits_of command) other ≡ false → due ≡ other
+    one_due command text _ _ _ _ (decided report is) (decided another is_another) p q = status_alike (bits_of command) (proved_by command) report another (told_alike command text report another is is_another) p q
+    one_due command text _ _ _ _ (decided report is) (refused number at other fault) p q = absurd (not_faulty command text report number at is fault)
+    one_due _ text _ _ _ _ (decided report is) (printed tree is_tree) p q = absurd is
+    one_due command text _ other _ another (decided report is) (of_documents due) p q = absurd (of_others command text report is (of_ones command text other another due))
+    one_due _ text _ _ _ _ (printed tree is_tree) (decided report is) p q = absurd is
+    one_due _ text _ _ _ _ (printed tree is_tree) (printed other is_other) p q = refl
+    one_due _ text _ _ _ _ (printed tree is_tree) (refused number at other fault) p q = absurd (not_printed text tree number at is_tree fault)
+    one_due _ text _ other _ another (printed tree is_tree) (of_documents due) p q = absurd (true≢false (sym (of_ones Print text other another due)))
+    one_due command text _ _ _ _ (refused number at other fault) (decided report is) p q = absurd (not_faulty command text report number at is fault)
+    one_due _ text _ _ _ _ (refused number at other fault) (printed tree is_tree) p q = absurd (not_printed text tree number at is_tree fault)
+    one_due command text _ _ _ _ (refused number at other fault) (refused place where_at another fault_too) p q = refl
+    one_due command text _ other _ another (refused number at not fault) (of_documents due) p q = absurd (true≢false (sym (of_ones command text other another due) ∙ not))
+    one_due command text due _ answer _ (of_documents is) (decided report is_report) p q = absurd (of_others command text report is_report (of_ones command text due answer is))
+    one_due _ text due _ answer _ (of_documents is) (printed tree is_tree) p q = absurd (true≢false (sym (of_ones Print text due answer is)))
+    one_due command text due _ answer _ (of_documents is) (refused number at not fault) p q = absurd (true≢false (sym (of_ones command text due answer is) ∙ not))
+    one_due command text due other answer another (of_documents is) (of_documents is_other) p q = one_document command text due other answer another is is_other
+    one_due _ text _ _ _ _ (decided report is) (confirmed name sizes budgets tree unit v valid called is_other) p q = absurd is
+    one_due _ text _ _ _ _ (refused number at not fault) (confirmed name sizes budgets tree unit v valid called is) p q = absurd (not_confirmed not_both one_fault one_tree text name sizes budgets v number at is fault)
+    one_due _ text due _ answer _ (of_documents is) (confirmed name sizes budgets tree unit v valid called is_other) p q = absurd (true≢false (sym (of_ones (Confirm name sizes budgets) text due answer is)))
+    one_due _ text _ _ _ _ (confirmed name sizes budgets tree unit v valid called is) (decided report is_other) p q = absurd is_other
+    one_due _ text _ _ _ _ (confirmed name sizes budgets tree unit v valid called is) (refused number at not fault) p q = absurd (not_confirmed not_both one_fault one_tree text name sizes budgets v number at is fault)
+    one_due _ text _ other _ another (confirmed name sizes budgets tree unit v valid called is) (of_documents is_other) p q = absurd (true≢false (sym (of_ones (Confirm name sizes budgets) text other another is_other)))
+    one_due _ text _ _ _ _ (confirmed name sizes budgets tree unit v valid called is) (confirmed _ _ _ tree_too unit_too w valid_too called_too is_other) p q =
         same_status_of v w (told_once one_tree text name sizes budgets.nodes budgets.steps v w is is_other)
 
 -- ---- all proved is due to `prove` alone
 
 -- a right report by which each unit is true
 pub record AllProvedOf (command : Command) (text : List ℕ) : Type 0 where
+  pub bits : Bits
   pub nodes : ℕ
   pub steps : ℕ
   pub report : Report
-  pub is_right : IsRightReport text nodes steps report
+  pub is_right : IsRightReport text bits nodes steps report
   pub all : AllTrueUnits report.units
 
 by_prove : (command : Command) (text : List ℕ) (report : Report) → IsReportFor command (text_for command text) report → proved_by command ≡ status.AllProved → AllTrueUnits report.units → AllProvedOf command text
-by_prove (Prove budgets) text report is e all = record { nodes = budgets.nodes; steps = budgets.steps; report = report; is_right = is; all = all }
-by_prove (Only name budgets) text report is e all = absurd (true≢false (sym (ap is_all e)))
+by_prove (Prove bits budgets) text report is e all = record { bits = bits; nodes = budgets.nodes; steps = budgets.steps; report = report; is_right = is; all = all }
+by_prove (Only name bits budgets) text report is e all = absurd (true≢false (sym (ap is_all e)))
 by_prove Print text report is e all = absurd is
 by_prove (Generated copies) text report is e all = absurd (true≢false (sym (ap is_all e)))
 by_prove (Proof budgets) text report is e all = absurd is

@@ -51,8 +51,8 @@ of_report proved report not = by (list_any (λ u. is_false u.verdict) report.uni
     by false false = not
 
 proved_not : (command : Command) (text : List ℕ) (report : Report) → IsReportFor command text report → is_asked (proved_by command) ≡ false
-proved_not (Prove budgets) text report is = refl
-proved_not (Only name budgets) text report is = refl
+proved_not (Prove bits budgets) text report is = refl
+proved_not (Only name bits budgets) text report is = refl
 proved_not Print text report is = refl
 proved_not (Generated copies) text report is = refl
 proved_not (Proof budgets) text report is = refl
@@ -124,8 +124,8 @@ holds_so law (Some (Confirm name sizes budgets)) text answer within is =
     let t = told_of (Confirm name sizes budgets) text status.HoldsHere answer refl is in
     let said = subst (IsConfirmed text name sizes budgets.nodes budgets.steps) (true_is t.found t.due_is) t.is_confirmed in
     law text name sizes (positive sizes within.0) budgets.nodes budgets.steps said
-holds_so law (Some (Prove budgets)) text answer within is = told_of (Prove budgets) text status.HoldsHere answer refl is
-holds_so law (Some (Only name budgets)) text answer within is = told_of (Only name budgets) text status.HoldsHere answer refl is
+holds_so law (Some (Prove bits budgets)) text answer within is = told_of (Prove bits budgets) text status.HoldsHere answer refl is
+holds_so law (Some (Only name bits budgets)) text answer within is = told_of (Only name bits budgets) text status.HoldsHere answer refl is
 holds_so law (Some Print) text answer within is = told_of Print text status.HoldsHere answer refl is
 holds_so law (Some (Generated copies)) text answer within is = told_of (Generated copies) _ status.HoldsHere answer refl is
 holds_so law (Some (Proof budgets)) text answer within is = told_of (Proof budgets) text status.HoldsHere answer refl is
@@ -150,8 +150,8 @@ module _ (one_tree : OneTree) (law : ConfirmedFalseIsReal) where
   real_so None text answer within is = absurd (true≢false (ap is_real is.0))
   real_so (Some (Confirm name sizes budgets)) text answer within is =
       real_told name sizes budgets.nodes budgets.steps text budgets answer within.0 (told_of (Confirm name sizes budgets) text status.Real answer refl is)
-  real_so (Some (Prove budgets)) text answer within is = told_of (Prove budgets) text status.Real answer refl is
-  real_so (Some (Only name budgets)) text answer within is = told_of (Only name budgets) text status.Real answer refl is
+  real_so (Some (Prove bits budgets)) text answer within is = told_of (Prove bits budgets) text status.Real answer refl is
+  real_so (Some (Only name bits budgets)) text answer within is = told_of (Only name bits budgets) text status.Real answer refl is
   real_so (Some Print) text answer within is = told_of Print text status.Real answer refl is
   real_so (Some (Generated copies)) text answer within is = told_of (Generated copies) _ status.Real answer refl is
   real_so (Some (Proof budgets)) text answer within is = told_of (Proof budgets) text status.Real answer refl is

@@ -7,6 +7,7 @@ use Rattle.smv_core.specs.declared.tree.Text.{Text}
 use Rattle.smv_core.specs.declared.flat.Class.{Class}
 use Rattle.smv_core.specs.declared.flat.Unit.{Unit as DesignUnit}
 use Rattle.smv_parse.specs.Laws.{IsNotBoth, IsOneFault}
+use Rattle.smv_bits.specs.declared.Bits.TheVariants.{Declared}
 use Rattle.smv_problem.specs.Written.{written_state}
 use Rattle.smv_problem.specs.declared.problem.AbsState.{AbsState as StateData}
 use Rattle.smv_problem.specs.declared.report.Budgets.{Budgets}
@@ -17,10 +18,10 @@ use Rattle.smv_command.specs.declared.exit.Status.{Status}
 use Rattle.smv_command.specs.declared.exit.Status.TheVariants as status
 use Rattle.law_events.specs.Events.Event.{Reached}
 use Rattle.law_obligations.specs.Readings.{PosedCase}
-use Rattle.law_reports.specs.Told.{IsToldBy, lists_for}
+use Rattle.law_reports.specs.Told.{IsToldBy}
 use Rattle.law_reports.specs.Reports.{told}
-use Rattle.law_reports.specs.Verdicts.{IsLeafVerdict, LeafVerdict, all_true, fails}
-use Rattle.law_reports.proofs.Decided.{one_leaf}
+use Rattle.law_reports.specs.Verdicts.{IsVerdictFor, IsLeafVerdict, LeafVerdict, all_true, fails}
+use Rattle.law_reports.proofs.Decided.{one_of_leaf}
 use Rattle.law_valid_texts.specs.Joined.{flat_design}
 use Rattle.law_valid_texts.specs.Faults.{pass_fault}
 use Rattle.law_valid_texts.specs.Laws.{OneTree}
@@ -37,13 +38,13 @@ use Rattle.law_answers.specs.OneAnswer.{shows_path}
 -- ---- what is told
 
 -- the verdict of a list of cases, without the path that is shown
-told_leaf : (case_for : List Class → PosedCase) (nodes steps : ℕ) (cases : List (List Class)) (v : Verdict) → IsToldBy case_for nodes steps cases v → IsLeafVerdict (lists_for case_for nodes steps) nodes steps cases (told v)
+told_leaf : (case_for : List Class → PosedCase) (nodes steps : ℕ) (cases : List (List Class)) (v : Verdict) → IsToldBy case_for Declared nodes steps cases v → IsLeafVerdict (IsVerdictFor case_for Declared nodes steps) cases (told v)
 told_leaf case_for nodes steps cases verdict.True is = is
 told_leaf case_for nodes steps cases (verdict.False case elements path) (k, fail, shown) =
     let long = shown.is_shortest.is_so_long in
     let written = ap (λ (xs : List StateData). length xs) shown.path_is ∙ length-map shown.states (written_state (case_for case.classes)) in
     let same : k ≡ length path - 1 = omega arith in
-    subst (λ (n : ℕ). IsLeafVerdict (lists_for case_for nodes steps) nodes steps cases (fails case.classes (Reached n))) same fail
+    subst (λ (n : ℕ). IsLeafVerdict (IsVerdictFor case_for Declared nodes steps) cases (fails case.classes (Reached n))) same fail
 told_leaf case_for nodes steps cases (verdict.UnknownNodes case count) is = is
 told_leaf case_for nodes steps cases (verdict.UnknownSteps case) is = is
 
@@ -109,7 +110,7 @@ module _ (one_tree : OneTree) where
       subst (λ (p : Text × DesignUnit). IsToldAt (flat_design p.0) (sizes_at (flat_design p.0).sets given) p.1 nodes steps v) (λ i. (trees i, units i)) is.is_told in
       let case_for = concrete_case d (sizes_at d.sets given) is_too.unit in
       let cases = concrete_cases d (sizes_at d.sets given) is_too.unit in
-      one_leaf (lists_for case_for nodes steps) nodes steps cases (told v) (told w) (told_leaf case_for nodes steps cases v at_too) (told_leaf case_for nodes steps cases w is_too.is_told)
+      one_of_leaf case_for nodes steps Declared cases (told v) (told w) (told_leaf case_for nodes steps cases v at_too) (told_leaf case_for nodes steps cases w is_too.is_told)
 
   pub same_lines : (text name : List ℕ) (tree other : Text) (unit unit_too : DesignUnit) (v w : Verdict) → IsValid text tree → IsValid text other → unit_called (flat_design tree) name ≡ Some unit →
       unit_called (flat_design other) name ≡ Some unit_too → told v ≡ told w → shows_path (confirmed_status v) ≡ false → confirmed_lines (flat_design tree) unit name v ≡ confirmed_lines (flat_design other) unit_too name w

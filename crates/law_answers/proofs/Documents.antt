@@ -20,8 +20,8 @@ is_own status.Resumed = true
 is_own _ = false
 
 own_not : (command : Command) (text : List ℕ) (report : Report) → IsReportFor command text report → is_own (proved_by command) ≡ false
-own_not (Prove budgets) text report is = refl
-own_not (Only name budgets) text report is = refl
+own_not (Prove bits budgets) text report is = refl
+own_not (Only name bits budgets) text report is = refl
 own_not Print text report is = refl
 own_not (Generated copies) text report is = refl
 own_not (Proof budgets) text report is = absurd is
@@ -55,8 +55,8 @@ its_text : (command : Command) (text asked answer : List ℕ) (due : Status) →
 its_text (Proof budgets) text asked answer due e is = sym e
 its_text Check text asked answer due e is = sym e
 its_text (Resume budgets) text asked answer due e is = sym e
-its_text (Prove budgets) text asked answer due e is = elim is [ ]
-its_text (Only name budgets) text asked answer due e is = elim is [ ]
+its_text (Prove bits budgets) text asked answer due e is = elim is [ ]
+its_text (Only name bits budgets) text asked answer due e is = elim is [ ]
 its_text Print text asked answer due e is = elim is [ ]
 its_text (Generated copies) text asked answer due e is = elim is [ ]
 its_text (Confirm name sizes budgets) text asked answer due e is = elim is [ ]

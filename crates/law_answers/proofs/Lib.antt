@@ -1,3 +1,4 @@
+pub mod Open
 pub mod Answers
 pub mod OneDue
 pub mod OneFault

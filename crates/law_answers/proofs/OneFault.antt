@@ -52,8 +52,8 @@ module _ (not_both : IsNotBoth) (one_fault : IsOneFault) (one_tree : OneTree) wh
 
   -- the valid text of a right report
   reported : (command : Command) (text : List ℕ) (report : Report) → IsReportFor command text report → (tree : Text) × IsValid text tree
-  reported (Prove budgets) text report is = (is.0, is.1)
-  reported (Only name budgets) text report is = (is.0, is.1)
+  reported (Prove bits budgets) text report is = (is.0, is.1)
+  reported (Only name bits budgets) text report is = (is.0, is.1)
   reported Print text report is = absurd is
   reported (Generated copies) text report is = (is.0, is.1)
   reported (Proof budgets) text report is = absurd is
@@ -72,28 +72,28 @@ module _ (not_both : IsNotBoth) (one_fault : IsOneFault) (one_tree : OneTree) wh
   unreported either command text report _ _ is (faulty tree f deciding is_tree found) =
       let valid = reported command text report is in
       unfaulty text valid.0 tree f valid.1 is_tree found
-  unreported either _ text report _ _ is (unnamed name nodes steps none) = either text name nodes steps report is none
+  unreported either _ text report _ _ is (unnamed name bits nodes steps none) = either text name bits nodes steps report is none
   unreported either _ text report _ _ is (of_unit name sizes budgets number at fault) = is
 
   pub one_first : (command : Command) (text : List ℕ) (number other at place : ℕ) → IsFault command text number at → IsFault command text other place → AreSame number other at place
   one_first command text _ _ _ _ (too_long long) (too_long longer) = record { numbers = refl; places = refl }
   one_first command text _ _ _ _ (too_long long) (malformed other place within fault) = absurd (omega (arith, long, within))
   one_first command text _ _ _ _ (too_long long) (faulty tree fault deciding is found) = absurd (short text tree is long)
-  one_first _ text _ _ _ _ (too_long long) (unnamed name nodes steps none) = absurd (short text none.0 none.1.is_tree long)
+  one_first _ text _ _ _ _ (too_long long) (unnamed name bits nodes steps none) = absurd (short text none.0 none.1.is_tree long)
   one_first command text _ _ _ _ (malformed number at within fault) (too_long long) = absurd (omega (arith, long, within))
   one_first command text _ _ _ _ (malformed number at within fault) (malformed other place within_too fault_too) =
       let same = one_fault text number other at place fault fault_too in
       record { numbers = same.0; places = same.1 }
   one_first command text _ _ _ _ (malformed number at within fault) (faulty tree f deciding is found) = absurd (formed text tree number at is fault)
-  one_first _ text _ _ _ _ (malformed number at within fault) (unnamed name nodes steps none) = absurd (formed text none.0 number at none.1.is_tree fault)
+  one_first _ text _ _ _ _ (malformed number at within fault) (unnamed name bits nodes steps none) = absurd (formed text none.0 number at none.1.is_tree fault)
   one_first command text _ _ _ _ (faulty tree f deciding is found) (too_long long) = absurd (short text tree is long)
   one_first command text _ _ _ _ (faulty tree f deciding is found) (malformed other place within fault) = absurd (formed text tree other place is fault)
   one_first command text _ _ _ _ (faulty tree f deciding is found) (faulty tree_too g deciding_too is_too found_too) = both_faulty text tree tree_too f g is is_too found found_too
-  one_first _ text _ _ _ _ (faulty tree f deciding is found) (unnamed name nodes steps none) = absurd (unfaulty text none.0 tree f none.1 is found)
-  one_first _ text _ _ _ _ (unnamed name nodes steps none) (too_long long) = absurd (short text none.0 none.1.is_tree long)
-  one_first _ text _ _ _ _ (unnamed name nodes steps none) (malformed other place within fault) = absurd (formed text none.0 other place none.1.is_tree fault)
-  one_first _ text _ _ _ _ (unnamed name nodes steps none) (faulty tree f deciding is found) = absurd (unfaulty text none.0 tree f none.1 is found)
-  one_first _ text _ _ _ _ (unnamed name nodes steps none) (unnamed other images turns none_too) = record { numbers = refl; places = refl }
+  one_first _ text _ _ _ _ (faulty tree f deciding is found) (unnamed name bits nodes steps none) = absurd (unfaulty text none.0 tree f none.1 is found)
+  one_first _ text _ _ _ _ (unnamed name bits nodes steps none) (too_long long) = absurd (short text none.0 none.1.is_tree long)
+  one_first _ text _ _ _ _ (unnamed name bits nodes steps none) (malformed other place within fault) = absurd (formed text none.0 other place none.1.is_tree fault)
+  one_first _ text _ _ _ _ (unnamed name bits nodes steps none) (faulty tree f deciding is found) = absurd (unfaulty text none.0 tree f none.1 is found)
+  one_first _ text _ _ _ _ (unnamed name bits nodes steps none) (unnamed other bits_too images turns none_too) = record { numbers = refl; places = refl }
   one_first _ text _ _ _ _ (too_long long) (of_unit name sizes budgets number at fault) =
       let valid = text_of_fault text name sizes number at fault in
       absurd (short text valid.0 valid.1.is_tree long)

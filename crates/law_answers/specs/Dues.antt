@@ -4,6 +4,8 @@ use Rattle.std.specs.Io.KnownBytes.{Appends, Keeps}
 use Rattle.smv_core.specs.declared.fault.Fault.{Fault}
 use Rattle.smv_core.specs.declared.tree.Text.{Text}
 use Rattle.smv_core.specs.declared.flat.Unit.{Unit as DesignUnit}
+use Rattle.smv_bits.specs.declared.Bits.{Bits}
+use Rattle.smv_bits.specs.declared.Bits.TheVariants.{Near, Declared}
 use Rattle.smv_problem.specs.declared.report.Budgets.{Budgets}
 use Rattle.smv_problem.specs.declared.report.Verdict.{Verdict}
 use Rattle.smv_problem.specs.declared.report.Report.{Report}
@@ -32,8 +34,8 @@ use Rattle.law_answers.specs.Confirmations.{confirmed_status, confirmed_lines}
 
 -- words that ask for a text
 abbrev pub reads : Option Command → Bool
-reads (Some (Prove budgets)) = true
-reads (Some (Only name budgets)) = true
+reads (Some (Prove bits budgets)) = true
+reads (Some (Only name bits budgets)) = true
 reads (Some Print) = true
 reads (Some (Generated copies)) = false
 reads (Some (Proof budgets)) = true
@@ -44,8 +46,8 @@ reads None = false
 
 -- a command that decides the units of its text
 abbrev pub decides : Command → Bool
-decides (Prove budgets) = true
-decides (Only name budgets) = true
+decides (Prove bits budgets) = true
+decides (Only name bits budgets) = true
 decides Print = false
 decides (Generated copies) = true
 decides (Proof budgets) = true
@@ -62,8 +64,8 @@ is_of_documents _ = false
 
 -- the text of a command: the one that was read, or the generated one
 abbrev pub text_for : Command → List ℕ → List ℕ
-text_for (Prove budgets) text = text
-text_for (Only name budgets) text = text
+text_for (Prove bits budgets) text = text
+text_for (Only name bits budgets) text = text
 text_for Print text = text
 text_for (Generated copies) text = generated_text copies
 text_for (Proof budgets) text = text
@@ -91,21 +93,36 @@ default_nodes = 1000000
 abbrev pub default_steps : ℕ
 default_steps = 1000
 
+-- the bits over which one that does not name any decides
+abbrev pub default_bits : Bits
+default_bits = Near
+
 -- the right reports of what a command asks to decide of its text
 abbrev pub IsReportFor : Command → List ℕ → Report → Type 0
-IsReportFor (Prove budgets) text report = IsRightReport text budgets.nodes budgets.steps report
-IsReportFor (Only name budgets) text report = IsUnitReport text name budgets.nodes budgets.steps report
+IsReportFor (Prove bits budgets) text report = IsRightReport text bits budgets.nodes budgets.steps report
+IsReportFor (Only name bits budgets) text report = IsUnitReport text name bits budgets.nodes budgets.steps report
 IsReportFor Print text report = ⊥
-IsReportFor (Generated copies) text report = IsRightReport text default_nodes default_steps report
+IsReportFor (Generated copies) text report = IsRightReport text default_bits default_nodes default_steps report
 IsReportFor (Proof budgets) text report = ⊥
 IsReportFor Check text report = ⊥
 IsReportFor (Resume budgets) text report = ⊥
 IsReportFor (Confirm name sizes budgets) text report = ⊥
 
+-- the bits over which a command has its text decided
+abbrev pub bits_of : Command → Bits
+bits_of (Prove bits budgets) = bits
+bits_of (Only name bits budgets) = bits
+bits_of Print = Declared
+bits_of (Generated copies) = default_bits
+bits_of (Proof budgets) = Declared
+bits_of Check = Declared
+bits_of (Resume budgets) = Declared
+bits_of (Confirm name sizes budgets) = Declared
+
 -- the status where all that a command asks to decide is true
 abbrev pub proved_by : Command → Status
-proved_by (Prove budgets) = status.AllProved
-proved_by (Only name budgets) = status.PartProved
+proved_by (Prove bits budgets) = status.AllProved
+proved_by (Only name bits budgets) = status.PartProved
 proved_by Print = status.Printed
 proved_by (Generated copies) = status.Generated
 proved_by (Proof budgets) = status.Documented
@@ -115,8 +132,8 @@ proved_by (Confirm name sizes budgets) = status.HoldsHere
 
 -- what is written of a report
 abbrev pub lines_for : Command → Report → List ℕ
-lines_for (Prove budgets) report = report_lines report
-lines_for (Only name budgets) report = report_lines report
+lines_for (Prove bits budgets) report = report_lines report
+lines_for (Only name bits budgets) report = report_lines report
 lines_for Print report = report_lines report
 lines_for (Generated copies) report = generated_lines copies report
 lines_for (Proof budgets) report = report_lines report
@@ -132,7 +149,7 @@ pub data IsFault : Command → List ℕ → ℕ → ℕ → Type 0 where
   too_long : {command : Command} {text : List ℕ} → limit < length text → IsFault command text 31 0
   malformed : {command : Command} {text : List ℕ} (number at : ℕ) → length text ≤ limit → HasFault text number at → IsFault command text number at
   faulty : {command : Command} {text : List ℕ} (tree : Text) (fault : Fault) → decides command ≡ true → IsTree text tree → pass_fault tree ≡ Some fault → IsFault command text fault.number fault.at
-  unnamed : {text : List ℕ} (name : List ℕ) (nodes steps : ℕ) → HasNoUnit text name → IsFault (Only name (record { nodes = nodes; steps = steps })) text 26 0
+  unnamed : {text : List ℕ} (name : List ℕ) (bits : Bits) (nodes steps : ℕ) → HasNoUnit text name → IsFault (Only name bits (record { nodes = nodes; steps = steps })) text 26 0
   of_unit : {text : List ℕ} (name sizes : List ℕ) (budgets : Budgets) (number at : ℕ) → IsUnitFault text name sizes number at → IsFault (Confirm name sizes budgets) text number at
 
 -- the status and the whole answer that a command and its text call for

@@ -6,7 +6,7 @@ use law_document_answers::documents::{due_is_sound, one_due};
 use law_valid_texts::valid_texts::{one_tree, reports_agree, right_reports_are_sound};
 use smv_parse::one_answer;
 
-/// One status is due to words and a text.
+/// One status is due to words and a text, beside one that leaves it open.
 pub fn one_status()
     ensures { OneStatus }
 {

@@ -5,7 +5,7 @@ use law_document_answers::documents::one_due;
 use law_valid_texts::valid_texts::{one_tree, reports_agree};
 use smv_parse::one_answer as one_parse;
 
-/// Where no path is shown, one answer is due to words and a text.
+/// Where no path is shown and nothing is left open, one answer is due to words and a text.
 pub fn one_answer()
     ensures { OneAnswer }
 {

@@ -1,5 +1,5 @@
 -- Over the declared arrangement the lists are the declared ones.
-use Rattle.std.proofs.Common.{◌≡◌, ℕ, zero, suc, ◌+◌, ◌<◌, List, [], ◌∷◌, ◌++◌, map, Bool, true, refl, ap, subst, ◌∙◌, Option, Some, None, arith, filter}
+use Rattle.std.proofs.Common.{◌≡◌, ℕ, ◌<◌, List, [], ◌∷◌, ◌++◌, map, Bool, true, refl, ap, subst, ◌∙◌, Some, None, arith, filter}
 use Rattle.std.specs.Prelude.{get_or}
 use Rattle.std.specs.List.{list_all}
 use Rattle.law_lists.proofs.Booleans.{and_alike}
@@ -10,22 +10,18 @@ use Rattle.law_obligations.specs.Obligations.{Demanded, is_met, obligation}
 use Rattle.law_obligations.specs.Bits.{Bits}
 use Rattle.law_obligations.specs.Readings.{PosedCase, IsCase, Slot, is_value, slots, state_bits, reading}
 use Rattle.law_obligations.proofs.CoverLists.{length-numbers}
-use Rattle.law_obligations.proofs.ReadBack.{slot_within, reading_agree, code_of_agree}
+use Rattle.law_obligations.proofs.ReadBack.{reading_agree, code_of_agree}
 use Rattle.law_obligations.proofs.Spots.{Has-numbers}
 use Rattle.law_reports.specs.CaseLists.{current, next, those_of, moving_first, claims, before_in_step, case_lists}
 use Rattle.law_reports.specs.CaseLists as today
 use Rattle.law_reports.proofs.Below.{in_slots}
-use Rattle.law_arrangements.specs.Arrangements.{AgreeBeside, AgreeBefore, spread, IsArrangement, declared}
+use Rattle.law_arrangements.specs.Arrangements.{spread, IsArrangement, declared}
 use Rattle.law_arrangements.specs.ArrangedLists.{met_first, met_step, element_first, element_step, slots_over, lists_over}
 use Rattle.law_arrangements.proofs.Below.{spread_agree}
+use Rattle.law_arrangements.proofs.OrderLaws.{number_at, order_arranges, declared_order}
 use Rattle.law_arrangements.proofs.Views.{gathered, spread_gathered}
 
-number_at : (low n k : ℕ) → k < n → get_or (numbers_from low n) k 0 ≡ low + k
-number_at low zero k lt = absurd (omega arith)
-number_at low (suc n) zero lt = omega arith
-number_at low (suc n) (suc k) lt = let more = number_at (low + 1) n k (omega arith) in omega arith
-
-filter_all : {X : Type 0} (xs : List X) → filter (λ x. true) xs ≡ xs
+pub filter_all : {X : Type 0} (xs : List X) → filter (λ x. true) xs ≡ xs
 filter_all [] = refl
 filter_all (x ∷ xs) = ap (λ ys. x ∷ ys) (filter_all xs)
 
@@ -44,7 +40,7 @@ module _ (c : PosedCase) (is : IsCase c) where
   spread_same s b lt =
       spread_agree order s (gathered c is order s) (λ v less.
       let below : v < state_bits c = subst (λ (m : ℕ). v < m) (length-numbers 0 (state_bits c)) less in
-      let e = number_at 0 (state_bits c) v below in
+      let e = number_at 0 (state_bits c) v 0 below in
       let at : v ≡ get_or (numbers_from 0 (state_bits c)) v 0 = omega arith in
       ap s at) b
       ∙ spread_gathered c is order s b (Has-numbers 0 (state_bits c) b (omega arith) (omega arith))
@@ -92,26 +88,5 @@ module _ (c : PosedCase) (is : IsCase c) where
     bits = length-numbers 0 (state_bits c) i;
   }
 
-  one_state : (a b : AbsState) → AgreeBeside [] a b → a ≡ b
-  one_state a b agree = λ i family ps. agree family ps refl i
-
-  one_before : (old other : Option AbsState) → AgreeBefore [] old other → old ≡ other
-  one_before None None agree = refl
-  one_before (Some a) (Some b) agree = ap Some (one_state a b agree)
-  one_before None (Some b) agree = elim agree [ ]
-  one_before (Some a) None agree = elim agree [ ]
-
   pub declared_is_arrangement : IsArrangement c (declared c)
-  declared_is_arrangement = record {
-    are_elements = λ x h. elim h [ ];
-    are_apart = tt;
-    have_places = λ slot h e i lt.
-        let within = (slot_within c.problem.world 0 c.elements slot h).1 in
-        Has-numbers 0 (state_bits c) (slot.bit + i) (omega arith) (omega arith);
-    are_determined = tt;
-    go_on = tt;
-    are_unread = record {
-      demands = λ d h e old other a b before agree. ap (λ (x : Option AbsState). is_met c.problem x a d) (one_before old other before) ∙ ap (λ (x : AbsState). is_met c.problem other x d) (one_state a b agree);
-      broken = λ old other a b before agree. ap (λ (x : Option AbsState). (obligation c.problem).broken x a) (one_before old other before) ∙ ap ((obligation c.problem).broken other) (one_state a b agree);
-    };
-  }
+  declared_is_arrangement = order_arranges c (numbers_from 0 (state_bits c)) (declared_order (state_bits c))

@@ -1,5 +1,5 @@
 -- What searches over arrangements find.
-use Rattle.std.proofs.Common.{◌≡◌, ℕ, ◌*◌, ◌<◌, List, Bool, true, false, arith}
+use Rattle.std.proofs.Common.{ℕ, ◌*◌, ◌<◌, List}
 use Rattle.smv_rings.specs.Lists.{Lists, State, IsLists}
 use Rattle.smv_rings.specs.Paths.{IsViolating}
 use Rattle.smv_rings.proofs.PathLaws.{violating_of, violates_of}
@@ -12,6 +12,7 @@ use Rattle.law_obligations.specs.CasePaths.{HasNone, IsShortest}
 use Rattle.law_reports.specs.CaseLists.{case_lists}
 use Rattle.law_reports.specs.ListLaws.{readings}
 use Rattle.law_reports.proofs.Below.{are_lists as case_lists_ok}
+use Rattle.law_reports.proofs.Shortest.{same_steps, not_both}
 use Rattle.law_reports.proofs.Paths.{none_is_none as declared_none, least_is_least as declared_least}
 use Rattle.law_arrangements.specs.Arrangements.{Arrangement, IsArrangement}
 use Rattle.law_arrangements.specs.ArrangedLists.{lists_over}
@@ -32,22 +33,6 @@ reached_least l ok nodes steps k v =
     let means = false_means l (budget l nodes steps) ok steps k v in
     let path = violating_of l k means.0.0 means.0.1 in
     (path.0, path.1, λ j lt other w. means.1 j lt (other j) (violates_of l j other w))
-
-module _ (c : PosedCase) where
-  -- two shortest paths are of the same length, and where there is none there is none
-  pub same_steps : (j k : ℕ) (path other : List AbsState) → IsShortest c.problem j path → IsShortest c.problem k other → j ≡ k
-  same_steps j k path other p q =
-      let one = p.is_least other q.is_path in
-      let two = q.is_least path p.is_path in
-      let long = p.is_so_long in
-      let also = q.is_so_long in
-      omega arith
-
-  pub not_both : (k : ℕ) (path : List AbsState) → HasNone c.problem → IsShortest c.problem k path → ⊥
-  not_both k path none p = clash (none path p.is_path.are_states) p.is_path.is_violating
-    where
-      clash : {b : Bool} → b ≡ false → b ≡ true → ⊥
-      clash e g = cc
 
 module _ (c : PosedCase) (is : IsCase c) where
   pub shut_is_none : (o : Arrangement) → IsArrangement c o → (nodes steps k : ℕ) → IsFirstEvent (lists_over c o) nodes steps (Shut k) → HasNone c.problem

@@ -5,6 +5,8 @@ pub mod Below
 pub mod Events
 pub mod Invariants
 pub mod Rings
+pub mod OrderLaws
 pub mod Declared
+pub mod OrderedLists
 pub mod Spent
 pub mod Telling

@@ -19,9 +19,9 @@ use Rattle.law_events.proofs.Meaning.{first_split, pass_split, lines_append}
 use Rattle.law_obligations.specs.May.{AbsState}
 use Rattle.law_obligations.specs.Readings.{PosedCase, IsCase}
 use Rattle.law_obligations.specs.CasePaths.{IsViolatingPath, IsInRing}
+use Rattle.law_reports.specs.Verdicts.{IsSpent}
 use Rattle.law_arrangements.specs.Arrangements.{Arrangement, IsArrangement}
 use Rattle.law_arrangements.specs.ArrangedLists.{lists_over}
-use Rattle.law_arrangements.specs.Laws.{IsSpent}
 use Rattle.law_arrangements.proofs.Below.{are_lists}
 use Rattle.law_arrangements.proofs.Paths.{paths_found}
 use Rattle.law_arrangements.proofs.Rings.{rings_differ}

@@ -1,5 +1,5 @@
 -- The laws: what the crate's public functions say.
-use Rattle.std.specs.Prelude.{◌≡◌, ◌↔◌, ℕ, zero, suc, ◌-◌, ◌<◌, List, length, get_or, Some, None, Bool, ◌&&◌}
+use Rattle.std.specs.Prelude.{◌≡◌, ◌↔◌, ℕ, zero, suc, ◌<◌, List, length, get_or, Some, None, Bool, ◌&&◌}
 use Rattle.std.specs.List.{list_all}
 use Rattle.bdd_ops.specs.Functions.{Function}
 use Rattle.law_obligations.specs.May.{AbsState}
@@ -12,6 +12,7 @@ use Rattle.law_obligations.specs.Bits.{Bits}
 use Rattle.law_obligations.specs.Readings.{PosedCase, IsCase, reading}
 use Rattle.law_obligations.specs.CasePaths.{IsViolatingPath, HasNone, IsShortest, IsInRing, IsInvariant, states_from}
 use Rattle.law_reports.specs.CaseLists.{case_lists}
+use Rattle.law_reports.specs.Verdicts.{IsSpent}
 use Rattle.law_arrangements.specs.Arrangements.{Arrangement, AgreeBeside, IsArrangement, declared, view, settled}
 use Rattle.law_arrangements.specs.ArrangedLists.{lists_over}
 
@@ -107,13 +108,6 @@ abbrev pub RingsDiffer : Type 0
 RingsDiffer = (c : PosedCase) → IsCase c → (o : Arrangement) → IsArrangement c o → (k j : ℕ) (s : State) → InRing (lists_over c o) k s → (InRing (lists_over c o) j s → ⊥) →
     (a : AbsState) × IsInRing c.problem k a × (IsInRing c.problem j a → ⊥)
 
--- the steps of a case are spent: each violating path has more, and at the last one some state is reached for the first time
-pub record IsSpent (c : PosedCase) (steps : ℕ) : Type 0 where
-  pub longer : (path : List AbsState) → IsViolatingPath c.problem path → suc steps < length path
-  pub state : AbsState
-  pub is_reached : IsInRing c.problem steps state
-  pub is_new : IsInRing c.problem (steps - 1) state → ⊥
-
--- so it is where a search over an arrangement uses up its images
+-- the steps of a case are spent where a search over an arrangement uses up its images
 abbrev pub ImagesAreSpent : Type 0
 ImagesAreSpent = (c : PosedCase) → IsCase c → (o : Arrangement) → IsArrangement c o → (nodes steps : ℕ) → IsFirstEvent (lists_over c o) nodes steps Images → IsSpent c steps

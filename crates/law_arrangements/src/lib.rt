@@ -5,5 +5,6 @@
 #![tactic(auto)]
 
 pub mod arrangements;
+pub mod orders;
 pub mod tries;
 pub mod worked;

@@ -4,7 +4,7 @@ use Rattle.smv_core.specs.declared.flat.Class.{Class}
 use Rattle.law_events.specs.Events.{Event, IsFirstEvent}
 use Rattle.law_events.specs.Events.Event.{Counted, Reached, Shut, Images}
 use Rattle.law_events.specs.Laws.{OneVerdict}
-use Rattle.smv_rings.specs.Lists.{Lists}
+use Rattle.smv_bits.specs.declared.Bits.TheVariants.{Declared}
 use Rattle.law_obligations.specs.Sets.{Has, first, later}
 use Rattle.law_obligations.proofs.Members.{Has-left, Has-right}
 use Rattle.law_obligations.specs.Outlines.{Entry, Script}
@@ -14,7 +14,7 @@ use Rattle.smv_problem.specs.declared.report.Verdict.{Verdict as Told}
 use Rattle.smv_problem.specs.declared.report.Verdict.TheVariants.{True, False, UnknownNodes, UnknownSteps}
 use Rattle.smv_problem.specs.declared.report.UnitResult.{UnitResult}
 use Rattle.law_reports.specs.CaseLists.{case_lists}
-use Rattle.law_reports.specs.Verdicts.{is_shut, AreTrueCases, lists_at}
+use Rattle.law_reports.specs.Verdicts.{is_shut, IsVerdictFor, AreTrueCases}
 use Rattle.law_reports.specs.Verdicts.{FailsFirst as FailsFirstOf}
 use Rattle.law_reports.specs.Reports.{AllTrueUnits, IsShown}
 use Rattle.law_reports.specs.Reports.{IsToldOf, AreResultsFrom as AreRightResults}
@@ -106,16 +106,16 @@ module _ (nodes images : ℕ) where
     abbrev cases : List UnitCase
     cases = cases_at s u entry
 
-    abbrev lists : List Class → Lists
-    lists = lists_at s nodes images u entry
+    abbrev verdict_of : List Class → Event → Type 0
+    verdict_of = IsVerdictFor (case_at s u entry) Declared nodes images
 
-    true_to : (some : List UnitCase) → ((c : UnitCase) → Has some c → c.case ≡ case_at s u entry c.classes) → AreTrue [] nodes images some → AreTrueCases lists nodes images (map (λ (c : UnitCase). c.classes) some)
+    true_to : (some : List UnitCase) → ((c : UnitCase) → Has some c → c.case ≡ case_at s u entry c.classes) → AreTrue [] nodes images some → AreTrueCases verdict_of (map (λ (c : UnitCase). c.classes) some)
     true_to some of true_all classes h =
         let r = Has-classes h in
         let is = searched r.0 (true_all r.0 r.1) in
-        (is.0, subst (λ (x : List Class). IsFirstEvent (lists x) nodes images (Shut is.0)) r.2 (subst (λ (x : PosedCase). IsFirstEvent (case_lists x) nodes images (Shut is.0)) (of r.0 r.1) is.1))
+        (is.0, subst (λ (x : List Class). verdict_of x (Shut is.0)) r.2 (subst (λ (x : PosedCase). IsFirstEvent (case_lists x) nodes images (Shut is.0)) (of r.0 r.1) is.1))
 
-    true_from : (k : ℕ) (some : List (List Class)) → AreTrueCases lists nodes images some → AreTrue [] nodes images (cases_from (unit_name s entry) (case_at s u entry) k some)
+    true_from : (k : ℕ) (some : List (List Class)) → AreTrueCases verdict_of some → AreTrue [] nodes images (cases_from (unit_name s entry) (case_at s u entry) k some)
     true_from k some true_all c h =
         let r = of_cases (unit_name s entry) (case_at s u entry) k some c h in
         let is = true_all c.classes r.0 in
@@ -128,7 +128,7 @@ module _ (nodes images : ℕ) where
     own : (c : UnitCase) → Has cases c → c.case ≡ case_at s u entry c.classes
     own c h = (of_cases (unit_name s entry) (case_at s u entry) 0 (classes_of s entry) c h).1
 
-    fails_to : (c : UnitCase) (v : Event) → FailsFirst [] nodes images cases c v → (c.case ≡ case_at s u entry c.classes) × FailsFirstOf lists nodes images (classes_of s entry) c.classes v
+    fails_to : (c : UnitCase) (v : Event) → FailsFirst [] nodes images cases c v → (c.case ≡ case_at s u entry c.classes) × FailsFirstOf verdict_of (classes_of s entry) c.classes v
     fails_to c v fail =
         let all_own = λ (x : UnitCase) (h : Has (fail.before ++ (c ∷ fail.behind)) x). own x (subst (λ (cs : List UnitCase). Has cs x) (sym fail.stands) h) in
         let own_case = all_own c (in_cut fail.before fail.behind c) in (
@@ -143,7 +143,7 @@ module _ (nodes images : ℕ) where
           },
         )
 
-    fails_from : (classes : List Class) (v : Event) → FailsFirstOf lists nodes images (classes_of s entry) classes v → (n : ℕ) × FailsFirst [] nodes images cases (case_of (unit_name s entry) (case_at s u entry) n classes) v
+    fails_from : (classes : List Class) (v : Event) → FailsFirstOf verdict_of (classes_of s entry) classes v → (n : ℕ) × FailsFirst [] nodes images cases (case_of (unit_name s entry) (case_at s u entry) n classes) v
     fails_from classes v fail =
         let r = cut_at (unit_name s entry) (case_at s u entry) 0 fail.before classes fail.behind in (
           r.number,
@@ -158,18 +158,18 @@ module _ (nodes images : ℕ) where
           },
         )
 
-    told_to : (verdict : Told) → IsToldBy [] nodes images cases verdict → IsToldOf s nodes images u entry verdict
-    told_to True told = subst (AreTrueCases lists nodes images) (classes_are (unit_name s entry) (case_at s u entry) 0 (classes_of s entry)) (true_to cases own told)
+    told_to : (verdict : Told) → IsToldBy [] nodes images cases verdict → IsToldOf s Declared nodes images u entry verdict
+    told_to True told = subst (AreTrueCases verdict_of) (classes_are (unit_name s entry) (case_at s u entry) 0 (classes_of s entry)) (true_to cases own told)
     told_to (False case elements path) (c, e, (k, fail, shown)) =
         let r = fails_to c (Reached k) fail in (
           k,
-          subst (λ (x : List Class). FailsFirstOf lists nodes images (classes_of s entry) x (Reached k)) e r.1,
+          subst (λ (x : List Class). FailsFirstOf verdict_of (classes_of s entry) x (Reached k)) e r.1,
           subst (λ (x : List Class). IsShown (case_at s u entry x) k elements path) e (subst (λ (x : PosedCase). IsShown x k elements path) r.0 shown),
         )
-    told_to (UnknownNodes case count) (c, e, fail) = subst (λ (x : List Class). FailsFirstOf lists nodes images (classes_of s entry) x (Counted count)) e (fails_to c (Counted count) fail).1
-    told_to (UnknownSteps case) (c, e, fail) = subst (λ (x : List Class). FailsFirstOf lists nodes images (classes_of s entry) x Images) e (fails_to c Images fail).1
+    told_to (UnknownNodes case count) (c, e, fail) = subst (λ (x : List Class). FailsFirstOf verdict_of (classes_of s entry) x (Counted count)) e (fails_to c (Counted count) fail).1
+    told_to (UnknownSteps case) (c, e, fail) = subst (λ (x : List Class). FailsFirstOf verdict_of (classes_of s entry) x Images) e (fails_to c Images fail).1
 
-    told_from : (verdict : Told) → IsToldOf s nodes images u entry verdict → IsToldBy [] nodes images cases verdict
+    told_from : (verdict : Told) → IsToldOf s Declared nodes images u entry verdict → IsToldBy [] nodes images cases verdict
     told_from True told = true_from 0 (classes_of s entry) told
     told_from (False case elements path) (k, fail, shown) =
         let r = fails_from case.classes (Reached k) fail in
@@ -177,14 +177,14 @@ module _ (nodes images : ℕ) where
     told_from (UnknownNodes case count) fail = let r = fails_from case.classes (Counted count) fail in (case_of (unit_name s entry) (case_at s u entry) r.0 case.classes, refl, r.1)
     told_from (UnknownSteps case) fail = let r = fails_from case.classes Images fail in (case_of (unit_name s entry) (case_at s u entry) r.0 case.classes, refl, r.1)
 
-  pub results_to : (s : Script) (u : ℕ) (entries : List Entry) (results : List UnitResult) → AreResultsFrom [] nodes images s u entries results → AreRightResults s nodes images u entries results
+  pub results_to : (s : Script) (u : ℕ) (entries : List Entry) (results : List UnitResult) → AreResultsFrom [] nodes images s u entries results → AreRightResults s Declared nodes images u entries results
   results_to s u [] [] are = tt
   results_to s u [] (x ∷ results) are = absurd are
   results_to s u (entry ∷ entries) [] are = absurd are
   results_to s u (entry ∷ entries) (x ∷ results) are =
       (record { name = are.0.name; params = are.0.params; verdict = told_to s u entry x.verdict are.0.verdict }, results_to s (suc u) entries results are.1)
 
-  pub results_from : (s : Script) (u : ℕ) (entries : List Entry) (results : List UnitResult) → AreRightResults s nodes images u entries results → AreResultsFrom [] nodes images s u entries results
+  pub results_from : (s : Script) (u : ℕ) (entries : List Entry) (results : List UnitResult) → AreRightResults s Declared nodes images u entries results → AreResultsFrom [] nodes images s u entries results
   results_from s u [] [] are = tt
   results_from s u [] (x ∷ results) are = absurd are
   results_from s u (entry ∷ entries) [] are = absurd are

@@ -5,6 +5,7 @@ use Rattle.smv_core.specs.FlatOrder.{design_of}
 use Rattle.smv_core.specs.Outcome.{State}
 use Rattle.smv_core.specs.Sound.{ProofUnit, AtEachTime, AreSizes, Holds, IsRun, instances}
 use Rattle.smv_core.specs.declared.tree.Text.{Text}
+use Rattle.smv_bits.specs.declared.Bits.TheVariants.{Declared}
 use Rattle.smv_core.specs.declared.flat.Case.{Case as CaseData}
 use Rattle.smv_core.specs.declared.flat.Element.{Element}
 use Rattle.smv_core.specs.declared.flat.Design.{Design}
@@ -21,9 +22,9 @@ use Rattle.law_reports.specs.Told.{IsToldBy}
 use Rattle.law_concrete.specs.Concrete.{concrete_cases, concrete_places, concrete_cone, concrete_case}
 use Rattle.law_sized_texts.specs.Texts.{IsRightText, IsSameUnit, IsRealInText}
 
--- the verdict of a unit at given sizes, by its cases in order up to the first that is not true
+-- the verdict of a unit at given sizes over the declared bits, by its cases in order up to the first that is not true
 abbrev pub IsToldAt : Design → Sizes → DesignUnit → ℕ → ℕ → Verdict → Type 0
-IsToldAt d sizes unit nodes steps verdict = IsToldBy (concrete_case d sizes unit) nodes steps (concrete_cases d sizes unit) verdict
+IsToldAt d sizes unit nodes steps verdict = IsToldBy (concrete_case d sizes unit) Declared nodes steps (concrete_cases d sizes unit) verdict
 
 -- where the unit is true at these sizes, each of its instances holds at each time of each run of these sizes
 abbrev pub TrueHolds : Type 0

@@ -13,6 +13,7 @@ use Rattle.law_events.specs.Laws.{OneVerdict}
 use Rattle.law_reports.specs.Lines.{report_lines}
 use Rattle.law_valid_texts.specs.Laws.{OneTree}
 use Rattle.law_valid_texts.specs.Reports.{IsRightReport}
+use Rattle.smv_bits.specs.declared.Bits.TheVariants.{Declared}
 use Rattle.smv_proof.specs.declared.proof.KeptSet.{KeptSet}
 use Rattle.smv_proof.specs.declared.proof.Proof.{Proof as Document}
 use Rattle.smv_proof.specs.Documents.{document, Spells}
@@ -62,7 +63,7 @@ module _ (not_both : IsNotBoth) (one_fault : IsOneFault) (one_tree : OneTree) (o
 
   -- ---- a document is asked for
 
-  abbrev right_as : (budgets : Budgets) (text : List ℕ) (report : Report) → IsRightReport text budgets.nodes budgets.steps report → IsResumedReport [] budgets.nodes budgets.steps text report
+  abbrev right_as : (budgets : Budgets) (text : List ℕ) (report : Report) → IsRightReport text Declared budgets.nodes budgets.steps report → IsResumedReport [] budgets.nodes budgets.steps text report
   right_as budgets text report right = (nothing_told text budgets.nodes budgets.steps report).1 right
 
   proof_as : (budgets : Budgets) (text : List ℕ) (proof : Document) → IsProofOf budgets.nodes budgets.steps text proof → IsResumedProof [] budgets.nodes budgets.steps text proof
@@ -173,8 +174,8 @@ module _ (not_both : IsNotBoth) (one_fault : IsOneFault) (one_tree : OneTree) (o
   one_due (Proof budgets) text due other answer another is is_too = one_documented budgets text due other answer another is is_too
   one_due Check text due other answer another is is_too = one_checked text due other answer another is is_too
   one_due (Resume budgets) text due other answer another is is_too = one_resumption budgets text due other answer another is is_too
-  one_due (Prove budgets) text due other answer another is is_too = elim is [ ]
-  one_due (Only name budgets) text due other answer another is is_too = elim is [ ]
+  one_due (Prove bits budgets) text due other answer another is is_too = elim is [ ]
+  one_due (Only name bits budgets) text due other answer another is is_too = elim is [ ]
   one_due Print text due other answer another is is_too = elim is [ ]
   one_due (Generated copies) text due other answer another is is_too = elim is [ ]
   one_due (Confirm name sizes budgets) text due other answer another is is_too = elim is [ ]

@@ -1,6 +1,7 @@
 -- What a call owes to the commands that read or write proof documents.
 use Rattle.std.specs.Prelude.{◌≡◌, ◌≢◌, ◌≤◌, ◌<◌, ℕ, Bool, true, false, List, [], ◌∷◌, length, codes}
 use Rattle.std.specs.Fmt.{decimal}
+use Rattle.smv_bits.specs.declared.Bits.TheVariants.{Declared}
 use Rattle.smv_problem.specs.declared.report.Report.{Report}
 use Rattle.smv_problem.specs.declared.report.Budgets.{Budgets}
 use Rattle.smv_report.specs.Lines.{fault_text}
@@ -52,10 +53,10 @@ abbrev pub is_of_design : Judgement → Bool
 is_of_design (design number at) = true
 is_of_design _ = false
 
--- The status and the whole answer. A report is due where a unit is not true, a fault of a design stands in the design, and a text that is too long comes before all else.
+-- The status and the whole answer, all of it over the declared bits. A report is due where a unit is not true, a fault of a design stands in the design, and a text that is too long comes before all else.
 pub data IsDocumentDue : Command → List ℕ → Status → List ℕ → Type 0 where
   documented : {text : List ℕ} (budgets : Budgets) (proof : Document) → IsProofOf budgets.nodes budgets.steps text proof → IsDocumentDue (Proof budgets) text status.Documented (document proof)
-  open_report : {text : List ℕ} (budgets : Budgets) (report : Report) → IsRightReport text budgets.nodes budgets.steps report → status_of status.Documented report ≢ status.Documented →
+  open_report : {text : List ℕ} (budgets : Budgets) (report : Report) → IsRightReport text Declared budgets.nodes budgets.steps report → status_of status.Documented report ≢ status.Documented →
       IsDocumentDue (Proof budgets) text (status_of status.Documented report) (report_lines report)
   refused_text : {text : List ℕ} (budgets : Budgets) (number at : ℕ) → IsFaultOf text number at → IsDocumentDue (Proof budgets) text status.Refused (fault_text text number at)
   too_long_to_check : {bytes : List ℕ} → check_limit < length bytes → IsDocumentDue Check bytes status.Refused (fault_text bytes 33 0)

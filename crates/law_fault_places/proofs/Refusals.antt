@@ -19,6 +19,7 @@ use Rattle.law_judgements.specs.Judgements.Judgement.{yes, form, design, set}
 use Rattle.law_document_answers.specs.Dues.{documented, open_report, refused_text, too_long_to_check, judged, refused_design, too_long_to_resume, not_old, refused_new, resumed, open_resumed, status_by, is_of_design}
 use Rattle.law_answers.proofs.Answers.{of_ones}
 use Rattle.law_answers.specs.Confirmations.{confirmed_status}
+use Rattle.smv_bits.specs.declared.Bits.TheVariants.{Declared}
 use Rattle.law_answers.specs.Dues.{IsFault, too_long, malformed, faulty, unnamed, of_unit, IsDue, IsDocumentDue, confirmed, decided, is_of_documents, of_documents, printed, refused, status_of, proved_by, is_false, is_unknown}
 use Rattle.law_fault_places.specs.PassFaults.{IsFaultWithin, PassFaultsAreWithin}
 use Rattle.law_fault_places.specs.FlatPlaces.{DesignsAreWithin, FlattenedTextsAreWithin}
@@ -30,8 +31,8 @@ found-within n o fault e h = subst (λ (p : Option Fault). IfSome p (λ (f : Fau
 
 -- a fault of the passes is one under each command
 under : (command : Command) (n number at : ℕ) → IsFaultWithin n number at → IsFaultUnder command n number at
-under (Prove budgets) n number at is = is
-under (Only name budgets) n number at is = is
+under (Prove bits budgets) n number at is = is
+under (Only name bits budgets) n number at is = is
 under Print n number at is = is
 under (Generated copies) n number at is = is
 under (Proof budgets) n number at is = is
@@ -47,7 +48,7 @@ module _ (form : IsWithin) (trees : TreesOfTextsAreWithin) (passes : PassFaultsA
       under command (length text) number at (record { lowest = w.0; highest = (let le = w.1 in omega (arith, le)); place = w.2 })
   fault-within command text _ _ (faulty tree fault asks is found) =
       under command (length text) fault.number fault.at (found-within (length text) (pass_fault tree) fault found (passes (length text) tree (trees text tree is.spelled)))
-  fault-within _ text _ _ (unnamed name nodes steps none) = record { lowest = omega arith; highest = omega arith; place = omega arith }
+  fault-within _ text _ _ (unnamed name bits nodes steps none) = record { lowest = omega arith; highest = omega arith; place = omega arith }
   fault-within _ text _ _ (of_unit name sizes budgets number at fault) = unit-fault-within trees flat designs text name sizes number at fault
 
 abbrev is_refused : Status → Bool
@@ -55,8 +56,8 @@ is_refused status.Refused = true
 is_refused _ = false
 
 proved-not : (command : Command) → is_refused (proved_by command) ≡ false
-proved-not (Prove budgets) = refl
-proved-not (Only name budgets) = refl
+proved-not (Prove bits budgets) = refl
+proved-not (Only name bits budgets) = refl
 proved-not Print = refl
 proved-not (Generated copies) = refl
 proved-not (Proof budgets) = refl
@@ -92,7 +93,7 @@ refusal-tells within command text due answer own (of_documents h) e = absurd (tr
 -- ---- of documents
 
 -- the first fault of a design is that of its text under a command that decides
-as-fault : (text : List ℕ) (number at : ℕ) → IsFaultOf text number at → IsFault (Prove (record { nodes = 1; steps = 1 })) text number at
+as-fault : (text : List ℕ) (number at : ℕ) → IsFaultOf text number at → IsFault (Prove Declared (record { nodes = 1; steps = 1 })) text number at
 as-fault text _ _ (judgement.too_long long) = too_long long
 as-fault text _ _ (judgement.malformed number at short has) = malformed number at short has
 as-fault text _ _ (judgement.faulty tree fault is found) = faulty tree fault refl is found
@@ -101,7 +102,7 @@ abbrev TellsDesign : List ℕ → Type 0
 TellsDesign answer = (text : List ℕ) × (number : ℕ) × (at : ℕ) × IsFaultOf text number at × IsFaultWithin (length text) number at × (answer ≡ fault_text text number at)
 
 of-design : FaultsAreWithin → (text : List ℕ) (number at : ℕ) → IsFaultOf text number at → TellsDesign (fault_text text number at)
-of-design within text number at fault = (text, number, at, fault, within (Prove (record { nodes = 1; steps = 1 })) text number at (as-fault text number at fault), refl)
+of-design within text number at fault = (text, number, at, fault, within (Prove Declared (record { nodes = 1; steps = 1 })) text number at (as-fault text number at fault), refl)
 
 open-not : (proved : Status) (report : Report) → is_refused proved ≡ false → is_refused (status_of proved report) ≡ false
 open-not proved report not = by (list_any (λ (u : UnitResult). is_false u.verdict) report.units) (list_any (λ (u : UnitResult). is_unknown u.verdict) report.units)

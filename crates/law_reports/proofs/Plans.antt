@@ -12,6 +12,7 @@ use Rattle.smv_core.specs.declared.flat.Leaf.{Leaf}
 use Rattle.smv_core.specs.declared.flat.Choice.{Choice}
 use Rattle.smv_core.specs.declared.flat.Timed.{Timed}
 use Rattle.smv_core.specs.declared.flat.Class.{Class}
+use Rattle.smv_bits.specs.declared.Bits.{Bits}
 use Rattle.law_obligations.specs.LeafCases.{leaf_cases}
 use Rattle.law_obligations.specs.Outlines.{Entry, Outline, Script, entries_of, outline_of}
 use Rattle.law_obligations.specs.Units.{units_of, script_of}
@@ -48,11 +49,11 @@ timed_at s k (x ∷ entries) (suc u) entry e =
     let same : suc k + u ≡ k + suc u = omega arith in
     timed_at s (suc k) entries u entry e ∙ ap (λ (n : ℕ). Some (timed (outline_of s) (graph s) n entry)) same
 
-told_same : (s : Script) (u : ℕ) (entry : Entry) (nodes images : ℕ) (verdict : Verdict) → IsToldBy (case_at s u entry) nodes images (classes_of s entry) verdict → IsToldOf s nodes images u entry verdict
-told_same s u entry nodes images True told = told
-told_same s u entry nodes images (False case elements path) told = told
-told_same s u entry nodes images (UnknownNodes case count) told = told
-told_same s u entry nodes images (UnknownSteps case) told = told
+told_same : (s : Script) (u : ℕ) (entry : Entry) (bits : Bits) (nodes images : ℕ) (verdict : Verdict) → IsToldBy (case_at s u entry) bits nodes images (classes_of s entry) verdict → IsToldOf s bits nodes images u entry verdict
+told_same s u entry bits nodes images True told = told
+told_same s u entry bits nodes images (False case elements path) told = told
+told_same s u entry bits nodes images (UnknownNodes case count) told = told
+told_same s u entry bits nodes images (UnknownSteps case) told = told
 
 module _ (d : Design) (leaves : List Leaf) (choices : List Choice) (u : ℕ) (leaf : Leaf) (choice : Choice) (at : IsAt d leaves choices u leaf choice) where
   abbrev s : Script
@@ -78,7 +79,7 @@ module _ (d : Design) (leaves : List Leaf) (choices : List Choice) (u : ℕ) (le
     pub case_is : (classes : List Class) → case_with d leaf choice times classes ≡ case_at (script_of d leaves choices) u (entry_of d leaf choice) classes
     case_is classes = ap (λ (o : Outline). case_of o (entry_of d leaf choice) times classes) outline_is ∙ ap (λ (t : Timed). case_of (outline_of s) (entry_of d leaf choice) t classes) times_are
 
-    pub told_is : (nodes images : ℕ) (verdict : Verdict) → IsToldBy (case_with d leaf choice times) nodes images (leaf_cases d.sets leaf.params choice.keeps) verdict → IsToldOf (script_of d leaves choices) nodes images u (entry_of d leaf choice) verdict
-    told_is nodes images verdict told =
-        told_same s u (entry_of d leaf choice) nodes images verdict
-        (subst (λ (case_for : List Class → PosedCase). IsToldBy case_for nodes images (leaf_cases d.sets leaf.params choice.keeps) verdict) (λ i classes. case_is classes i) told)
+    pub told_is : (bits : Bits) (nodes images : ℕ) (verdict : Verdict) → IsToldBy (case_with d leaf choice times) bits nodes images (leaf_cases d.sets leaf.params choice.keeps) verdict → IsToldOf (script_of d leaves choices) bits nodes images u (entry_of d leaf choice) verdict
+    told_is bits nodes images verdict told =
+        told_same s u (entry_of d leaf choice) bits nodes images verdict
+        (subst (λ (case_for : List Class → PosedCase). IsToldBy case_for bits nodes images (leaf_cases d.sets leaf.params choice.keeps) verdict) (λ i classes. case_is classes i) told)

@@ -5,6 +5,7 @@ use Rattle.smv_core.specs.declared.flat.Leaf.{Leaf}
 use Rattle.smv_core.specs.declared.flat.Choice.{Choice}
 use Rattle.smv_core.specs.declared.flat.Timed.{Timed}
 use Rattle.smv_core.specs.declared.flat.Class.{Class}
+use Rattle.smv_bits.specs.declared.Bits.{Bits}
 use Rattle.law_obligations.specs.LeafCases.{leaf_cases}
 use Rattle.law_obligations.specs.Units.{units_of, script_of}
 use Rattle.law_obligations.specs.Times.{all_timed}
@@ -35,5 +36,5 @@ CasesAreOfScripts = (d : Design) (leaves : List Leaf) (choices : List Choice) (u
 -- and what is told of the leaf by all its cases is told of the unit
 abbrev pub UnitsAreToldByCases : Type 0
 UnitsAreToldByCases = (d : Design) (leaves : List Leaf) (choices : List Choice) (u : ℕ) (leaf : Leaf) (choice : Choice) → IsAt d leaves choices u leaf choice →
-    (times : Timed) → slice_get (all_timed (script_of d leaves choices)) u ≡ Some times → (nodes steps : ℕ) (verdict : Verdict) →
-    IsToldBy (case_with d leaf choice times) nodes steps (leaf_cases d.sets leaf.params choice.keeps) verdict → IsToldOf (script_of d leaves choices) nodes steps u (entry_of d leaf choice) verdict
+    (times : Timed) → slice_get (all_timed (script_of d leaves choices)) u ≡ Some times → (bits : Bits) (nodes steps : ℕ) (verdict : Verdict) →
+    IsToldBy (case_with d leaf choice times) bits nodes steps (leaf_cases d.sets leaf.params choice.keeps) verdict → IsToldOf (script_of d leaves choices) bits nodes steps u (entry_of d leaf choice) verdict

@@ -1,6 +1,7 @@
 -- When a report is right for a script.
 use Rattle.std.specs.Prelude.{◌≡◌, ℕ, suc, ◌-◌, List, [], ◌∷◌, map, length}
 use Rattle.smv_core.specs.declared.flat.Element.{Element}
+use Rattle.smv_bits.specs.declared.Bits.{Bits}
 use Rattle.law_obligations.specs.Sets.{Has}
 use Rattle.law_obligations.specs.May.{AbsState}
 use Rattle.law_obligations.specs.Outlines.{Entry, Script, unit_in}
@@ -24,13 +25,13 @@ pub record IsShown (c : PosedCase) (steps : ℕ) (elements : List Element) (path
   pub elements_are : elements ≡ map written_element c.elements
   pub path_is : path ≡ map (written_state c) states
 
-module _ (s : Script) (nodes steps : ℕ) where
+module _ (s : Script) (bits : Bits) (nodes steps : ℕ) where
   -- what is told of the unit at this place is its verdict; a false one is shown by a shortest violating path of the first case that is not true
   abbrev pub IsToldOf : ℕ → Entry → Verdict → Type 0
-  IsToldOf u entry True = IsUnitVerdict s nodes steps u entry all_true
-  IsToldOf u entry (False case elements path) = (k : ℕ) × IsUnitVerdict s nodes steps u entry (fails case.classes (Reached k)) × IsShown (case_at s u entry case.classes) k elements path
-  IsToldOf u entry (UnknownNodes case count) = IsUnitVerdict s nodes steps u entry (fails case.classes (Counted count))
-  IsToldOf u entry (UnknownSteps case) = IsUnitVerdict s nodes steps u entry (fails case.classes Images)
+  IsToldOf u entry True = IsUnitVerdict s bits nodes steps u entry all_true
+  IsToldOf u entry (False case elements path) = (k : ℕ) × IsUnitVerdict s bits nodes steps u entry (fails case.classes (Reached k)) × IsShown (case_at s u entry case.classes) k elements path
+  IsToldOf u entry (UnknownNodes case count) = IsUnitVerdict s bits nodes steps u entry (fails case.classes (Counted count))
+  IsToldOf u entry (UnknownSteps case) = IsUnitVerdict s bits nodes steps u entry (fails case.classes Images)
 
   -- the result of the unit at this place: its name, the parameters of its leaf, and its verdict
   pub record IsResultOf (u : ℕ) (entry : Entry) (r : UnitResult) : Type 0 where

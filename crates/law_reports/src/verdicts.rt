@@ -1,13 +1,13 @@
 // Laws of the definitions, each the contract of a function that does nothing.
 ghost use Rattle.law_reports.specs.VerdictLaws.{OneUnitVerdict, OneVerdictEach, ShutCasesHaveNone, ReachedCasesHaveShortest, TrueScriptsAreProved, TrueScriptsAreSound};
 
-/// A leaf has at most one verdict for its budgets, and a script one list of verdicts.
+/// A leaf has at most one verdict for its budgets, and a script one list of verdicts; over near bits, beside unknown ones.
 pub fn one_verdict()
     ensures leaves { OneUnitVerdict }
     ensures scripts { OneVerdictEach }
 {}
 
-/// A case whose rings close has no violating path of abstract states; one for which the search finds a path of so many steps has one, and none that is shorter.
+/// A case that is true has no violating path of abstract states; one that is false at so many steps has one, and none that is shorter.
 pub fn verdicts_mean()
     ensures none { ShutCasesHaveNone }
     ensures shortest { ReachedCasesHaveShortest }

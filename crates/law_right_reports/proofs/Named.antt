@@ -5,6 +5,7 @@ use Rattle.smv_core.specs.Values.{Name}
 use Rattle.smv_core.specs.declared.flat.Unit.{Unit}
 use Rattle.smv_core.specs.declared.flat.Leaf.{Leaf}
 use Rattle.smv_core.specs.declared.flat.Choice.{Choice}
+use Rattle.smv_bits.specs.declared.Bits.{Bits}
 use Rattle.law_obligations.specs.Outlines.{Entry, Script, entries_of, unit_in}
 use Rattle.law_splits.specs.Leaves.{name_of}
 use Rattle.smv_problem.specs.declared.report.UnitResult.{UnitResult}
@@ -15,14 +16,14 @@ pub some_is : {X : Type 0} {x y : X} → Some x ≡ Some y → x ≡ y
 some_is e = cc
 
 -- results have the names of their units
-pub names_of_results : (s : Script) (nodes steps u : ℕ) (entries : List Entry) (results : List UnitResult) → AreResultsFrom s nodes steps u entries results →
+pub names_of_results : (s : Script) (bits : Bits) (nodes steps u : ℕ) (entries : List Entry) (results : List UnitResult) → AreResultsFrom s bits nodes steps u entries results →
     map (λ (r : UnitResult). r.name) results ≡ map (λ (entry : Entry). name_of s.design (unit_in s.design entry.unit)) entries
-names_of_results s nodes steps u [] [] h = refl
-names_of_results s nodes steps u [] (r ∷ results) h = elim h [ ]
-names_of_results s nodes steps u (entry ∷ entries) [] h = elim h [ ]
-names_of_results s nodes steps u (entry ∷ entries) (r ∷ results) h =
+names_of_results s bits nodes steps u [] [] h = refl
+names_of_results s bits nodes steps u [] (r ∷ results) h = elim h [ ]
+names_of_results s bits nodes steps u (entry ∷ entries) [] h = elim h [ ]
+names_of_results s bits nodes steps u (entry ∷ entries) (r ∷ results) h =
     ap (λ name. name ∷ map (λ (r : UnitResult). r.name) results) h.0.name
-    ∙ ap (λ names. name_of s.design (unit_in s.design entry.unit) ∷ names) (names_of_results s nodes steps (suc u) entries results h.1)
+    ∙ ap (λ names. name_of s.design (unit_in s.design entry.unit) ∷ names) (names_of_results s bits nodes steps (suc u) entries results h.1)
 
 -- with a leaf and a choice for each unit, the entries are of the units
 pub units_of_entries : {X : Type 0} (f : Unit → X) (units : List Unit) (leaves : List Leaf) (choices : List Choice) → length leaves ≡ length units → length choices ≡ length units →

@@ -4,6 +4,7 @@ use Rattle.smv_core.specs.Sound.{IsSound}
 use Rattle.smv_core.specs.declared.tree.Text.{Text}
 use Rattle.smv_core.specs.declared.flat.Design.{Design}
 use Rattle.smv_core.specs.declared.flat.Choice.{Choice}
+use Rattle.smv_bits.specs.declared.Bits.{Bits}
 use Rattle.law_designs.specs.Flattening.{flatten}
 use Rattle.law_designs.specs.WellKinded.{IsWellKinded}
 use Rattle.law_designs.specs.SingleFaults.{first_fault_of_single}
@@ -39,12 +40,12 @@ pub record IsFitForProof (text : Text) : Type 0 where
 abbrev pub WellKindedAreReady : Type 0
 WellKindedAreReady = (text : Text) → IsWellKinded text → IsRead (flat_design text) × HaveValues (flat_design text)
 
--- a text that is fit for proof, and of which every unit is true, whatever the choices are and whatever the budgets, is sound
+-- a text that is fit for proof, and of which every unit is true, whatever the choices are, whatever the bits and whatever the budgets, is sound
 abbrev pub TrueTextsAreSound : Type 0
 TrueTextsAreSound = (text : Text) → IsFitForProof text → (choices : List Choice) → length choices ≡ length (units_of (flat_design text)) →
-    (nodes steps : ℕ) (verdicts : List LeafVerdict) → AreVerdicts (script_with text choices) nodes steps verdicts → AllTrue verdicts → IsSound text
+    (bits : Bits) (nodes steps : ℕ) (verdicts : List LeafVerdict) → AreVerdicts (script_with text choices) bits nodes steps verdicts → AllTrue verdicts → IsSound text
 
 -- so is one of which a right report says that every unit is true
 abbrev pub TrueReportsAreSound : Type 0
 TrueReportsAreSound = (text : Text) → IsFitForProof text → (choices : List Choice) → length choices ≡ length (units_of (flat_design text)) →
-    (nodes steps : ℕ) (report : Report) → IsReportOf (script_with text choices) nodes steps report → AllTrueUnits report.units → IsSound text
+    (bits : Bits) (nodes steps : ℕ) (report : Report) → IsReportOf (script_with text choices) bits nodes steps report → AllTrueUnits report.units → IsSound text

@@ -3,6 +3,7 @@ use Rattle.std.specs.Prelude.{◌≡◌, ℕ, suc, List, [], ◌∷◌, Option, 
 use Rattle.std.specs.Str.{bytes_eq}
 use Rattle.smv_core.specs.Sound.{IsSound}
 use Rattle.smv_core.specs.declared.tree.Text.{Text}
+use Rattle.smv_bits.specs.declared.Bits.{Bits}
 use Rattle.law_obligations.specs.Outlines.{Entry, Script, unit_in}
 use Rattle.law_splits.specs.Leaves.{name_of}
 use Rattle.law_uses.specs.Choices.{choices_of}
@@ -26,9 +27,9 @@ IsSoundDesign text = (tree : Text) × IsValid text tree × IsSound tree
 abbrev pub script_of_tree : Text → Script
 script_of_tree tree = script_with tree (choices_of (flat_design tree))
 
--- a right report of all units of a valid text, under a budget of nodes and one of steps
-abbrev pub IsRightReport : List ℕ → ℕ → ℕ → Report → Type 0
-IsRightReport text nodes steps report = (tree : Text) × IsValid text tree × IsReportOf (script_of_tree tree) nodes steps report
+-- a right report of all units of a valid text, over bits that stand so, under a budget of nodes and one of steps
+abbrev pub IsRightReport : List ℕ → Bits → ℕ → ℕ → Report → Type 0
+IsRightReport text bits nodes steps report = (tree : Text) × IsValid text tree × IsReportOf (script_of_tree tree) bits nodes steps report
 
 -- the place of the first unit of this name, from a place on, with the unit's entry
 abbrev pub named_from : Script → List ℕ → ℕ → List Entry → Option (ℕ × Entry)
@@ -40,16 +41,16 @@ abbrev pub unit_named : Script → List ℕ → Option (ℕ × Entry)
 unit_named s name = named_from s name 0 s.entries
 
 -- a right report of this unit alone
-pub record IsReportOfUnit (s : Script) (nodes steps u : ℕ) (entry : Entry) (report : Report) : Type 0 where
+pub record IsReportOfUnit (s : Script) (bits : Bits) (nodes steps u : ℕ) (entry : Entry) (report : Report) : Type 0 where
   pub result : UnitResult
-  pub is_result : IsResultOf s nodes steps u entry result
+  pub is_result : IsResultOf s bits nodes steps u entry result
   pub design : report.design ≡ s.design
   pub units : report.units ≡ result ∷ []
 
 -- a right report of the unit of this name alone, of a valid text
-abbrev pub IsUnitReport : List ℕ → List ℕ → ℕ → ℕ → Report → Type 0
-IsUnitReport text name nodes steps report =
-    (tree : Text) × IsValid text tree × ((u : ℕ) × (entry : Entry) × (unit_named (script_of_tree tree) name ≡ Some (u, entry)) × IsReportOfUnit (script_of_tree tree) nodes steps u entry report)
+abbrev pub IsUnitReport : List ℕ → List ℕ → Bits → ℕ → ℕ → Report → Type 0
+IsUnitReport text name bits nodes steps report =
+    (tree : Text) × IsValid text tree × ((u : ℕ) × (entry : Entry) × (unit_named (script_of_tree tree) name ≡ Some (u, entry)) × IsReportOfUnit (script_of_tree tree) bits nodes steps u entry report)
 
 -- a valid text has no unit of this name
 abbrev pub HasNoUnit : List ℕ → List ℕ → Type 0

@@ -26,7 +26,7 @@ pub fn right_reports_are_sound()
     true_reports_are_sound();
 }
 
-/// Two right reports of a text tell the same; so do two of one unit of it, and a text has not both a unit of a name and none.
+/// Two right reports of a text tell the same, over near bits beside what one of them leaves unknown; so do two of one unit of it, and a text has not both a unit of a name and none.
 pub fn reports_agree()
     ensures texts { OneReport }
     ensures units { OneUnitReport }

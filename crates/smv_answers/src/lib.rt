@@ -179,9 +179,13 @@ pub fn reads(command: &Command) -> bool
     ensures { result ≡ reads (Some command.now) }
 {
     match command {
-        Command::Prove { budgets: _ } => true,
+        Command::Prove {
+            bits: _,
+            budgets: _,
+        } => true,
         Command::Only {
             name: _,
+            bits: _,
             budgets: _,
         } => true,
         Command::Print => true,
@@ -202,9 +206,13 @@ fn written(alloc: Global, command: &Command, report: &Report) -> Result<Vec<u8>,
     ensures { IfOk result (λ bytes. bytes.items ≡ lines_for command.now report.now) }
 {
     match command {
-        Command::Prove { budgets: _ } => lines(alloc, report),
+        Command::Prove {
+            bits: _,
+            budgets: _,
+        } => lines(alloc, report),
         Command::Only {
             name: _,
+            bits: _,
             budgets: _,
         } => lines(alloc, report),
         Command::Print => lines(alloc, report),
@@ -225,9 +233,13 @@ fn proved_by(command: &Command) -> Status
     ensures { result ≡ proved_by command.now }
 {
     match command {
-        Command::Prove { budgets: _ } => Status::AllProved,
+        Command::Prove {
+            bits: _,
+            budgets: _,
+        } => Status::AllProved,
         Command::Only {
             name: _,
+            bits: _,
             budgets: _,
         } => Status::PartProved,
         Command::Print => Status::Printed,

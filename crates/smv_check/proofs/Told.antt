@@ -1,5 +1,6 @@
 -- What is answered of sets, and of a document.
 use Rattle.std.proofs.Common.{◌≡◌, ◌∙◌, ◌≤◌, ◌<◌, ℕ, Bool, true, false, ◌&&◌, List, [], ◌∷◌, ◌++◌, length, Some, None, Result, Ok, Err, IfSome, refl, sym, ap, subst, arith}
+use Rattle.smv_bits.specs.declared.Bits.TheVariants.{Declared}
 use Rattle.std.specs.Prelude.{codes}
 use Rattle.std.specs.List.{flat_map}
 use Rattle.std.specs.Fmt.{decimal}
@@ -47,18 +48,18 @@ met_is cases sets p passed le same =
 -- ---- the fault of a design
 
 abbrev is_prove : Command → Bool
-is_prove (Prove budgets) = true
+is_prove (Prove bits budgets) = true
 is_prove _ = false
 
 fault_of : (command : Command) (text : List ℕ) (number at : ℕ) → is_prove command ≡ true → IsFault command text number at → IsFaultOf text number at
 fault_of command text _ _ e (too_long long) = judgements.too_long long
 fault_of command text _ _ e (malformed number at within fault) = judgements.malformed number at within fault
 fault_of command text _ _ e (faulty tree fault deciding is found) = judgements.faulty tree fault is found
-fault_of _ text _ _ e (unnamed name nodes steps none) = absurd (cc (e))
+fault_of _ text _ _ e (unnamed name bits nodes steps none) = absurd (cc (e))
 fault_of _ text _ _ e (of_unit name sizes budgets number at is) = absurd (cc (e))
 
 fault_is : (text : List ℕ) (fault : Fault) → IsFaultRead text fault → IsFaultOf text fault.number fault.at
-fault_is text fault is = fault_of (Prove (record { nodes = 1; steps = 1 })) text fault.number fault.at refl (is (Prove (record { nodes = 1; steps = 1 })) refl)
+fault_is text fault is = fault_of (Prove Declared (record { nodes = 1; steps = 1 })) text fault.number fault.at refl (is (Prove Declared (record { nodes = 1; steps = 1 })) refl)
 
 -- ---- a document
 

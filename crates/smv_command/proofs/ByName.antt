@@ -1,19 +1,20 @@
 -- What the name of a subcommand says of its command.
-use Rattle.std.proofs.Common.{◌≡◌, ◌∙◌, List, ap, codes, Some, None, is_some, refl, subst, sym, true, false}
+use Rattle.std.proofs.Common.{◌≡◌, ◌∙◌, List, ap, codes, Bool, not, ◌&&◌, ◌||◌, Option, Some, None, is_some, refl, subst, sym, true, false}
 use Rattle.std.specs.Str.{bytes_eq}
 use Rattle.std.proofs.lemmas.Slice.Eq.{bytes_eq-Decides}
 use Rattle.std.specs.Prelude.{option_map}
 use Rattle.clap.specs.Walk.{Row, Text}
+use Rattle.smv_problem.specs.declared.report.Budgets.{Budgets}
 use Rattle.smv_command.specs.declared.commands.Command.TheVariants.{Prove, Only, Print, Generated, Proof, Check, Resume, Confirm}
 use Rattle.smv_command.specs.Ranges.{most_copies}
-use Rattle.smv_command.specs.Commands.{both, budgets_in, name_in, named, number_in, sizes_in}
+use Rattle.smv_command.specs.Commands.{bits_in, both, budgets_in, misnames, name_in, named, number_in, sizes_in}
 use Rattle.smv_command.proofs.Values.{both_some, map_some}
 
-pub prove_is : (rows : List Row) → named (codes "prove") rows ≡ option_map Prove (budgets_in rows)
+pub prove_is : (rows : List Row) → named (codes "prove") rows ≡ option_map (λ p. Prove p.0 p.1) (both (bits_in rows) (budgets_in rows))
 unfolding named
 prove_is rows = refl
 
-pub only_is : (rows : List Row) → named (codes "only") rows ≡ option_map (λ p. Only p.0 p.1) (both (name_in rows) (budgets_in rows))
+pub only_is : (rows : List Row) → named (codes "only") rows ≡ option_map (λ p. Only p.0 p.1.0 p.1.1) (both (name_in rows) (both (bits_in rows) (budgets_in rows)))
 unfolding named
 only_is rows = refl
 
@@ -52,10 +53,10 @@ no_name word rows t1 t2 t3 t4 t5 t6 t7 t8 = rw (t1, t2, t3, t4, t5, t6, t7, t8) 
 at_word : (word w : Text) (rows : List Row) → bytes_eq word w ≡ true → named word rows ≡ named w rows
 at_word word w rows e = subst (λ (u : Text). named word rows ≡ named u rows) ((bytes_eq-Decides word w).0 e) refl
 
-pub at_prove : (word : Text) (rows : List Row) → bytes_eq word (codes "prove") ≡ true → named word rows ≡ option_map Prove (budgets_in rows)
+pub at_prove : (word : Text) (rows : List Row) → bytes_eq word (codes "prove") ≡ true → named word rows ≡ option_map (λ p. Prove p.0 p.1) (both (bits_in rows) (budgets_in rows))
 at_prove word rows e = at_word word (codes "prove") rows e ∙ prove_is rows
 
-pub at_only : (word : Text) (rows : List Row) → bytes_eq word (codes "only") ≡ true → named word rows ≡ option_map (λ p. Only p.0 p.1) (both (name_in rows) (budgets_in rows))
+pub at_only : (word : Text) (rows : List Row) → bytes_eq word (codes "only") ≡ true → named word rows ≡ option_map (λ p. Only p.0 p.1.0 p.1.1) (both (name_in rows) (both (bits_in rows) (budgets_in rows)))
 at_only word rows e = at_word word (codes "only") rows e ∙ only_is rows
 
 pub at_print : (word : Text) (rows : List Row) → bytes_eq word (codes "print") ≡ true → named word rows ≡ Some Print
@@ -77,15 +78,49 @@ pub at_confirm : (word : Text) (rows : List Row) → bytes_eq word (codes "confi
     → named word rows ≡ option_map (λ p. Confirm p.0 p.1.0 p.1.1) (both (name_in rows) (both (sizes_in rows) (budgets_in rows)))
 at_confirm word rows e = at_word word (codes "confirm") rows e ∙ confirm_is rows
 
+-- ---- bits that are named, or need no name
+
+-- where they are named by a word of theirs
+pub names_bits : (word : Text) (rows : List Row) → is_some (bits_in rows) ≡ true → misnames word rows ≡ false
+names_bits word rows e = ap (λ (b : Bool). (bytes_eq word (codes "prove") || bytes_eq word (codes "only")) && not b) e ∙ none (bytes_eq word (codes "prove") || bytes_eq word (codes "only"))
+  where
+    none : (b : Bool) → b && not true ≡ false
+    none true = refl
+    none false = refl
+
+-- and in a subcommand without them
+pub needs_none : (word : Text) (rows : List Row) → bytes_eq word (codes "prove") ≡ false → bytes_eq word (codes "only") ≡ false → misnames word rows ≡ false
+needs_none word rows e f = rw (e, f) refl
+
+-- where they are not named there is no command
+pub no_bits : (name : Option Text) (budgets : Option Budgets) → option_map (λ p. Only p.0 p.1.0 p.1.1) (both name (both None budgets)) ≡ None
+no_bits None budgets = refl
+no_bits (Some n) budgets = refl
+
+-- a command that is there has its bits named
+pub some_names_bits : (word : Text) (rows : List Row) → is_some (named word rows) ≡ true → misnames word rows ≡ false
+some_names_bits word rows there = by (bytes_eq word (codes "prove")) refl (bytes_eq word (codes "only")) refl
+  where
+    by : (p : Bool) → bytes_eq word (codes "prove") ≡ p → (q : Bool) → bytes_eq word (codes "only") ≡ q → misnames word rows ≡ false
+    by true e q f = names_bits word rows (both_some (bits_in rows) (budgets_in rows) (map_some (λ p. Prove p.0 p.1) (both (bits_in rows) (budgets_in rows)) (ap is_some (sym (at_prove word rows e)) ∙ there))).0
+    by false e true f =
+        let bits_and_budgets = both (bits_in rows) (budgets_in rows) in
+        let more = both_some (name_in rows) bits_and_budgets (map_some (λ p. Only p.0 p.1.0 p.1.1) (both (name_in rows) bits_and_budgets) (ap is_some (sym (at_only word rows f)) ∙ there)) in
+        names_bits word rows (both_some (bits_in rows) (budgets_in rows) more.1).0
+    by false e false f = needs_none word rows e f
+
 -- ---- what a named command was given
 
 pub given_to_prove : (word : Text) (rows : List Row) → bytes_eq word (codes "prove") ≡ true → is_some (named word rows) ≡ true → is_some (budgets_in rows) ≡ true
-given_to_prove word rows e there = map_some Prove (budgets_in rows) (ap is_some (sym (at_prove word rows e)) ∙ there)
+given_to_prove word rows e there =
+    (both_some (bits_in rows) (budgets_in rows) (map_some (λ p. Prove p.0 p.1) (both (bits_in rows) (budgets_in rows)) (ap is_some (sym (at_prove word rows e)) ∙ there))).1
 
 pub given_to_only : (word : Text) (rows : List Row) → bytes_eq word (codes "only") ≡ true → is_some (named word rows) ≡ true
     → (is_some (name_in rows) ≡ true) × (is_some (budgets_in rows) ≡ true)
 given_to_only word rows e there =
-    both_some (name_in rows) (budgets_in rows) (map_some (λ p. Only p.0 p.1) (both (name_in rows) (budgets_in rows)) (ap is_some (sym (at_only word rows e)) ∙ there))
+    let bits_and_budgets = both (bits_in rows) (budgets_in rows) in
+    let (name, more) = both_some (name_in rows) bits_and_budgets (map_some (λ p. Only p.0 p.1.0 p.1.1) (both (name_in rows) bits_and_budgets) (ap is_some (sym (at_only word rows e)) ∙ there)) in
+    (name, (both_some (bits_in rows) (budgets_in rows) more).1)
 
 pub given_to_generated : (word : Text) (rows : List Row) → bytes_eq word (codes "generated") ≡ true → is_some (named word rows) ≡ true
     → is_some (number_in most_copies (codes "N") rows) ≡ true

@@ -1,6 +1,6 @@
 -- What the matches of words that are taken have, subcommand by subcommand.
-use Rattle.std.proofs.Common.{◌≡◌, ◌∙◌, ◌||◌, Bool, true, false, not, List, [], ◌∷◌, Option, inl, inr, refl, sym, ap, arith, subst, is_some, codes, true≢false, pos}
-use Rattle.std.specs.Prelude.{option_and_then, unwrap_or}
+use Rattle.std.proofs.Common.{◌≡◌, ◌∙◌, ◌||◌, Bool, true, false, not, List, [], ◌∷◌, inl, inr, refl, sym, ap, arith, subst, is_some, codes, true≢false, pos}
+use Rattle.std.specs.Prelude.{unwrap_or}
 use Rattle.clap.specs.Walk.{Row, Rule, Text, all_of, nothing_held, rows_after, settled, walk, with_default}
 use Rattle.clap.specs.Simple.{Shape, built, built_leaf, filled, inherited, marked_built, subcommand_of, with_index, with_leaf_noted}
 use Rattle.clap.specs.Faults.{fault_of, level_fault}
@@ -9,8 +9,9 @@ use Rattle.clap.specs.Takes.{value_passes, values_pass}
 use Rattle.clap.proofs.ValueTestLemmas.{accepts-Accepts}
 use Rattle.clap.proofs.WalkLemmas.{both as both_true}
 use Rattle.smv_command.specs.Ranges.{most_nodes, most_steps, most_copies, most_size}
+use Rattle.smv_command.specs.Built.{IsGiven}
 use Rattle.smv_command.specs.CommandLine as line
-use Rattle.smv_command.specs.Commands.{both, budgets_in, name_in, named, number, number_in, numbers, sizes_in}
+use Rattle.smv_command.specs.Commands.{bits_in, both, budgets_in, misnames, name_in, named, number, number_in, numbers, sizes_in}
 use Rattle.smv_command.specs.declared.commands.Command.TheVariants.{Prove, Only, Generated, Proof, Resume, Confirm}
 use Rattle.smv_command.proofs.Rows.{AllFit, Among, EachKnown, HasValue, IsKnown, are_known, built_entered, given_pass, has_default, has_given, kept_by_default, level_is, value_of}
 use Rattle.smv_command.proofs.Values.{both_given, both_there, map_given, number_given, word_given}
@@ -22,6 +23,9 @@ above = with_leaf_noted (marked_built line.smv.top)
 
 abbrev seen : Shape → Shape
 seen s = built_leaf (inherited above s)
+
+abbrev bits : Rule
+bits = filled line.bits
 
 abbrev nodes : Rule
 nodes = filled line.nodes
@@ -44,8 +48,12 @@ budgets = nodes ∷ steps ∷ []
 each_of_budgets : EachKnown budgets budgets
 each_of_budgets = (record { by_id = refl; valued = refl }, (record { by_id = refl; valued = refl }, tt))
 
-each_of_only : EachKnown (name ∷ budgets) (name ∷ budgets)
-each_of_only = (record { by_id = refl; valued = refl }, (record { by_id = refl; valued = refl }, (record { by_id = refl; valued = refl }, tt)))
+each_of_prove : EachKnown (bits ∷ budgets) (bits ∷ budgets)
+each_of_prove = (record { by_id = refl; valued = refl }, (record { by_id = refl; valued = refl }, (record { by_id = refl; valued = refl }, tt)))
+
+each_of_only : EachKnown (name ∷ bits ∷ budgets) (name ∷ bits ∷ budgets)
+each_of_only =
+    (record { by_id = refl; valued = refl }, (record { by_id = refl; valued = refl }, (record { by_id = refl; valued = refl }, (record { by_id = refl; valued = refl }, tt))))
 
 each_of_generated : EachKnown (copies ∷ []) (copies ∷ [])
 each_of_generated = (record { by_id = refl; valued = refl }, tt)
@@ -87,27 +95,35 @@ absent : (g x : Bool) → (not g || x) ≡ false → (g ≡ true) × (x ≡ fals
 absent true x e = (refl, e)
 absent false x e = absurd (true≢false e)
 
--- what a subcommand's level without a fault gives
+-- what a subcommand's level without a fault gives, where it does not misname its bits
 abbrev Gives : List Text → Shape → Type 0
-Gives rest s = level_fault s [] nothing_held rest false [] ≡ [] → is_some (named s.name (rows_after s.rules [] rest)) ≡ true
+Gives rest s = level_fault s [] nothing_held rest false [] ≡ [] → misnames s.name (rows_after s.rules [] rest) ≡ false → is_some (named s.name (rows_after s.rules [] rest)) ≡ true
+
+-- bits that are not misnamed are there
+named_there : (b : Bool) → not b ≡ false → b ≡ true
+named_there true e = refl
+named_there false e = absurd (true≢false e)
 
 prove_given : (rest : List Text) → Gives rest (seen line.prove)
-prove_given rest e =
-    let level = level_is (seen line.prove) [] rest false [] (are_known budgets each_of_budgets) each_of_budgets e in
-    ap is_some (prove_is (rows_after budgets [] rest)) ∙ map_given Prove (budgets_in (rows_after budgets [] rest))
-    (budgets_given budgets (settled budgets (walk budgets [] nothing_held rest).held).rows each_of_budgets.0 each_of_budgets.1.0 level.fits)
+prove_given rest e right =
+    let c = bits ∷ budgets in
+    let rows = rows_after c [] rest in
+    let level = level_is (seen line.prove) [] rest false [] (are_known c each_of_prove) each_of_prove e in
+    ap is_some (prove_is rows) ∙ both_given (λ p. Prove p.0 p.1) (bits_in rows) (budgets_in rows) (named_there (is_some (bits_in rows)) right)
+    (budgets_given c (with_default (settled c (walk c [] nothing_held rest).held).rows bits) each_of_prove.1.0 each_of_prove.1.1.0 level.fits)
 
 only_given : (rest : List Text) → Gives rest (seen line.only)
-only_given rest e =
-    let c = name ∷ budgets in
+only_given rest e right =
+    let c = name ∷ bits ∷ budgets in
     let rows = rows_after c [] rest in
     let level = level_is (seen line.only) [] rest false [] (are_known c each_of_only) each_of_only e in
     let named = value_of c name rows each_of_only.0 level.fits (has_given (codes "NAME") rows (absent _ _ level.given).0) in
-    ap is_some (only_is rows) ∙ both_given (λ p. Only p.0 p.1) (name_in rows) (budgets_in rows) (ap is_some named.first)
-    (budgets_given c (with_default (settled c (walk c [] nothing_held rest).held).rows name) each_of_only.1.0 each_of_only.1.1.0 level.fits)
+    ap is_some (only_is rows) ∙ both_given (λ p. Only p.0 p.1.0 p.1.1) (name_in rows) (both (bits_in rows) (budgets_in rows)) (ap is_some named.first)
+    (both_there (bits_in rows) (budgets_in rows) (named_there (is_some (bits_in rows)) right)
+    (budgets_given c (with_default (with_default (settled c (walk c [] nothing_held rest).held).rows name) bits) each_of_only.1.1.0 each_of_only.1.1.1.0 level.fits))
 
 generated_given : (rest : List Text) → Gives rest (seen line.generated)
-generated_given rest e =
+generated_given rest e right =
     let c = copies ∷ [] in
     let rows = rows_after c [] rest in
     let level = level_is (seen line.generated) [] rest false [] (are_known c each_of_generated) each_of_generated e in
@@ -115,19 +131,19 @@ generated_given rest e =
     ap is_some (generated_is rows) ∙ map_given Generated (number_in most_copies (codes "N") rows) (copies_given rows given)
 
 proof_given : (rest : List Text) → Gives rest (seen line.proof)
-proof_given rest e =
+proof_given rest e right =
     let level = level_is (seen line.proof) [] rest false [] (are_known budgets each_of_budgets) each_of_budgets e in
     ap is_some (proof_is (rows_after budgets [] rest)) ∙ map_given Proof (budgets_in (rows_after budgets [] rest))
     (budgets_given budgets (settled budgets (walk budgets [] nothing_held rest).held).rows each_of_budgets.0 each_of_budgets.1.0 level.fits)
 
 resume_given : (rest : List Text) → Gives rest (seen line.resume)
-resume_given rest e =
+resume_given rest e right =
     let level = level_is (seen line.resume) [] rest false [] (are_known budgets each_of_budgets) each_of_budgets e in
     ap is_some (resume_is (rows_after budgets [] rest)) ∙ map_given Resume (budgets_in (rows_after budgets [] rest))
     (budgets_given budgets (settled budgets (walk budgets [] nothing_held rest).held).rows each_of_budgets.0 each_of_budgets.1.0 level.fits)
 
 confirm_given : (rest : List Text) → Gives rest (seen line.confirm)
-confirm_given rest e =
+confirm_given rest e right =
     let c = name ∷ sizes ∷ budgets in
     let rows = rows_after c [] rest in
     let level = level_is (seen line.confirm) [] rest false [] (are_known c each_of_confirm) each_of_confirm e in
@@ -139,16 +155,16 @@ confirm_given rest e =
 among_gives : (s : Shape) (rest : List Text) → Among s (built line.smv).subs → Gives rest s
 among_gives s rest (inl is) = subst (Gives rest) (sym is) (prove_given rest)
 among_gives s rest (inr (inl is)) = subst (Gives rest) (sym is) (only_given rest)
-among_gives s rest (inr (inr (inl is))) = subst (Gives rest) (sym is) (λ e. ap is_some (print_is (rows_after [] [] rest)))
+among_gives s rest (inr (inr (inl is))) = subst (Gives rest) (sym is) (λ e right. ap is_some (print_is (rows_after [] [] rest)))
 among_gives s rest (inr (inr (inr (inl is)))) = subst (Gives rest) (sym is) (generated_given rest)
 among_gives s rest (inr (inr (inr (inr (inl is))))) = subst (Gives rest) (sym is) (proof_given rest)
-among_gives s rest (inr (inr (inr (inr (inr (inl is)))))) = subst (Gives rest) (sym is) (λ e. ap is_some (check_is (rows_after [] [] rest)))
+among_gives s rest (inr (inr (inr (inr (inr (inl is)))))) = subst (Gives rest) (sym is) (λ e right. ap is_some (check_is (rows_after [] [] rest)))
 among_gives s rest (inr (inr (inr (inr (inr (inr (inl is))))))) = subst (Gives rest) (sym is) (resume_given rest)
 among_gives s rest (inr (inr (inr (inr (inr (inr (inr (inl is)))))))) = subst (Gives rest) (sym is) (confirm_given rest)
 among_gives s rest (inr (inr (inr (inr (inr (inr (inr (inr never)))))))) = absurd never
 
--- words without a fault name a command
-pub taken_named : (words : List Text) → fault_of line.smv words ≡ [] → is_some (option_and_then (λ found. named found.0 found.1) (subcommand_of line.smv words)) ≡ true
-taken_named words e =
+-- words without a fault name a command, unless they misname its bits
+pub taken_given : (words : List Text) → fault_of line.smv words ≡ [] → IsGiven (subcommand_of line.smv words)
+taken_given words e =
     let entered = built_entered (built line.smv) words tt refl e in
-    ap (λ (o : Option (Text × List Row)). is_some (option_and_then (λ found. named found.0 found.1) o)) entered.is ∙ among_gives entered.shape entered.rest entered.among entered.fault
+    subst IsGiven (sym entered.is) (among_gives entered.shape entered.rest entered.among entered.fault)

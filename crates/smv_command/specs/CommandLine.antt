@@ -18,6 +18,10 @@ positional id = record (new_rule id) { required = true }
 abbrev pub option : Text → ℕ → Text → Rule
 option id most default = record (numbered most (new_rule id)) { long = Some id; defaults = default ∷ [] }
 
+-- an option `--bits WORD`; clap takes any word, and `Commands` says which ones are
+abbrev pub bits : Rule
+bits = record (new_rule (codes "bits")) { long = Some (codes "bits"); defaults = codes "near" ∷ [] }
+
 abbrev pub nodes : Rule
 nodes = option (codes "nodes") most_nodes (codes "1000000")
 
@@ -38,10 +42,10 @@ abbrev pub subcommand : Text → List Rule → Shape
 subcommand word rules = record (new_shape word) { rules = rules }
 
 abbrev pub prove : Shape
-prove = subcommand (codes "prove") (nodes ∷ steps ∷ [])
+prove = subcommand (codes "prove") (bits ∷ nodes ∷ steps ∷ [])
 
 abbrev pub only : Shape
-only = subcommand (codes "only") (name ∷ nodes ∷ steps ∷ [])
+only = subcommand (codes "only") (name ∷ bits ∷ nodes ∷ steps ∷ [])
 
 abbrev pub print : Shape
 print = subcommand (codes "print") []

@@ -1,5 +1,5 @@
 -- The command that words are: what a reader has to believe, beside `CommandLine` and clap's definition of a simple command.
-use Rattle.std.specs.Prelude.{◌≡◌, ℕ, List, [], ◌∷◌, codes, Option, Some, None, option_map, option_and_then, unwrap_or, if◌then◌else◌}
+use Rattle.std.specs.Prelude.{◌≡◌, ℕ, List, [], ◌∷◌, codes, Bool, false, not, ◌&&◌, ◌||◌, Option, Some, None, is_some, option_map, option_and_then, unwrap_or, if◌then◌else◌}
 use Rattle.std.specs.Str.{bytes_eq}
 use Rattle.std.specs.Str.Parse.{digits_value, without_leading_plus}
 use Rattle.clap.specs.Kinds.{Kinds}
@@ -7,6 +7,8 @@ use Rattle.clap.specs.ValueTests.{is_unsigned_in}
 use Rattle.clap.specs.Walk.{Row, Text, all_of, first_of, one_of}
 use Rattle.clap.specs.Simple.{subcommand_of}
 use Rattle.clap.specs.Faults.{fault_of}
+use Rattle.smv_bits.specs.declared.Bits.{Bits}
+use Rattle.smv_bits.specs.declared.Bits.TheVariants.{Near, Declared}
 use Rattle.smv_problem.specs.declared.report.Budgets.{Budgets}
 use Rattle.smv_command.specs.declared.commands.Command.{Command}
 use Rattle.smv_command.specs.declared.commands.Command.TheVariants.{Prove, Only, Print, Generated, Proof, Check, Resume, Confirm}
@@ -41,11 +43,18 @@ sizes_in rows = numbers most_size (unwrap_or (all_of (codes "SIZE") rows) [])
 abbrev pub name_in : List Row → Option Text
 name_in rows = first_of (codes "NAME") rows
 
+-- the bits that a word names
+abbrev pub bits_named : Text → Option Bits
+bits_named word = if bytes_eq word (codes "near") then Some Near else (if bytes_eq word (codes "declared") then Some Declared else None)
+
+abbrev pub bits_in : List Row → Option Bits
+bits_in rows = option_and_then bits_named (first_of (codes "bits") rows)
+
 -- the command of a subcommand's name and values
 unfoldable pub named : Text → List Row → Option Command
 named word rows =
-    if bytes_eq word (codes "prove") then option_map Prove (budgets_in rows)
-    else (if bytes_eq word (codes "only") then option_map (λ p. Only p.0 p.1) (both (name_in rows) (budgets_in rows))
+    if bytes_eq word (codes "prove") then option_map (λ p. Prove p.0 p.1) (both (bits_in rows) (budgets_in rows))
+    else (if bytes_eq word (codes "only") then option_map (λ p. Only p.0 p.1.0 p.1.1) (both (name_in rows) (both (bits_in rows) (budgets_in rows)))
     else (if bytes_eq word (codes "print") then Some Print
     else (if bytes_eq word (codes "generated") then option_map Generated (number_in most_copies (codes "N") rows)
     else (if bytes_eq word (codes "proof") then option_map Proof (budgets_in rows)
@@ -54,9 +63,17 @@ named word rows =
     else (if bytes_eq word (codes "confirm") then option_map (λ p. Confirm p.0 p.1.0 p.1.1) (both (name_in rows) (both (sizes_in rows) (budgets_in rows)))
     else None)))))))
 
--- the words are taken: clap finds no fault in them, and so gives matches
+-- a subcommand whose bits are named by none of their words
+abbrev pub misnames : Text → List Row → Bool
+misnames word rows = (bytes_eq word (codes "prove") || bytes_eq word (codes "only")) && not (is_some (bits_in rows))
+
+abbrev pub NamesBits : Option (Text × List Row) → Type 0
+NamesBits None = Unit {0}
+NamesBits (Some found) = misnames found.0 found.1 ≡ false
+
+-- the words are taken: clap finds no fault in them, and so gives matches, and where they name bits they do it by a word of theirs
 abbrev pub AreTaken : List Text → Type 0
-AreTaken words = fault_of smv words ≡ []
+AreTaken words = (fault_of smv words ≡ []) × NamesBits (subcommand_of smv words)
 
 -- a value, where there is no fault
 abbrev pub where_faultless : {X : Type 0} → Kinds → Option X → Option X

@@ -29,8 +29,8 @@ abbrev pub AreSizes : List ℕ → Type 0
 AreSizes sizes = All (λ size. (1 ≤ size) × (size ≤ most_size)) sizes
 
 abbrev pub IsInRange : Command → Type 0
-IsInRange (Prove budgets) = AreInRange budgets
-IsInRange (Only name budgets) = AreInRange budgets
+IsInRange (Prove bits budgets) = AreInRange budgets
+IsInRange (Only name bits budgets) = AreInRange budgets
 IsInRange Print = Unit {0}
 IsInRange (Generated copies) = (1 ≤ copies) × (copies ≤ most_copies)
 IsInRange (Proof budgets) = AreInRange budgets

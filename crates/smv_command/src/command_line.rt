@@ -38,6 +38,7 @@ fn prove<'a>(alloc: Global) -> Result<Command<'a>, AllocError>
     ensures { IfOk result (HasShape line.prove) }
 {
     Command::new(alloc, "prove")
+        .arg(bits(alloc))?
         .arg(nodes(alloc))?
         .arg(steps(alloc))
 }
@@ -47,6 +48,7 @@ fn only<'a>(alloc: Global) -> Result<Command<'a>, AllocError>
 {
     Command::new(alloc, "only")
         .arg(name(alloc))?
+        .arg(bits(alloc))?
         .arg(nodes(alloc))?
         .arg(steps(alloc))
 }
@@ -103,6 +105,12 @@ fn sizes<'a>(alloc: Global) -> Arg<'a>
     Arg::new(alloc, "SIZE")
         .num_args(1..)
         .value_parser(value_parser!(u32).range(1..=256))
+}
+
+fn bits<'a>(alloc: Global) -> Arg<'a>
+    ensures { HasRule line.bits result }
+{
+    Arg::new(alloc, "bits").long("bits").default_value("near")
 }
 
 fn nodes<'a>(alloc: Global) -> Arg<'a>

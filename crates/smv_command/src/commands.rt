@@ -1,4 +1,5 @@
 // What the words of a command line ask for, as data.
+use smv_bits::Bits;
 use smv_core::{Name, Seq};
 use smv_problem::Budgets;
 
@@ -7,11 +8,13 @@ use smv_problem::Budgets;
 pub enum Command {
     /// Decide all units of a design.
     Prove {
+        bits: Bits,
         budgets: Budgets,
     },
     /// Decide the unit of this name alone.
     Only {
         name: Name,
+        bits: Bits,
         budgets: Budgets,
     },
     /// Write the canonical spelling of a text.

@@ -1,26 +1,29 @@
 // The command that the words of a command line are, read by clap.
-ghost use Rattle.std.specs.Prelude.{◌≡◌, ◌≤◌, ℕ, Some, is_some, map, option_and_then, true, IfOk};
+ghost use Rattle.std.specs.Prelude.{◌≡◌, ◌≤◌, ℕ, Some, is_some, map, option_and_then, option_map, false, true, IfOk};
 ghost use Rattle.std.specs.String.{string_bytes};
 ghost use Rattle.clap.specs.Matches.{found_of};
 ghost use Rattle.clap.specs.Walk.{first_of, rows_of, texts};
 ghost use Rattle.clap.specs.Simple.{subcommand_rows_of};
+ghost use Rattle.smv_command.specs.declared.commands.Command.TheVariants.{Prove, Only};
+ghost use Rattle.smv_command.specs.Built.{IsGiven};
 ghost use Rattle.smv_command.specs.Ranges.{most_size};
-ghost use Rattle.smv_command.specs.Commands.{budgets_in, command_of, named, number, number_in, numbers, sizes_in};
+ghost use Rattle.smv_command.specs.Commands.{bits_in, bits_named, both, budgets_in, command_of, misnames, name_in, named, number, number_in, numbers, sizes_in};
 
 use crate::Command;
 use crate::command_line::smv;
 use clap::ArgMatches;
 use clap::error::ErrorKind;
+use smv_bits::Bits;
 use smv_core::{Name, Seq};
 use smv_problem::Budgets;
 use std::alloc::{AllocError, Global};
 
-/// The command that the words are, or none where clap gives no matches. The words are those behind the program's name.
+/// The command that the words are, or none where clap gives no matches, or where bits are named by none of their words. The words are those behind the program's name.
 pub fn command_of(alloc: Global, words: &[String]) -> Result<Option<Command>, AllocError>
     ensures { IfOk result (λ found. found ≡ command_of (map string_bytes words.now)) }
 {
     match smv(alloc)?.try_get_matches_from(words) {
-        Ok(matches) => Ok(Some(command_in(alloc, &matches)?)),
+        Ok(matches) => command_in(alloc, &matches),
         Err(error) => {
             if error.kind() == ErrorKind::OutOfMemory {
                 Err(AllocError)
@@ -31,10 +34,10 @@ pub fn command_of(alloc: Global, words: &[String]) -> Result<Option<Command>, Al
     }
 }
 
-// The command that the matches name.
-fn command_in(alloc: Global, matches: &ArgMatches<'_>) -> Result<Command, AllocError>
-    requires { is_some (option_and_then (λ found. named found.0 found.1) (subcommand_rows_of matches.now)) ≡ true }
-    ensures { IfOk result (λ command. option_and_then (λ found. named found.0 found.1) (subcommand_rows_of matches.now) ≡ Some command) }
+// The command that the matches name, or none where it names its bits by none of their words.
+fn command_in(alloc: Global, matches: &ArgMatches<'_>) -> Result<Option<Command>, AllocError>
+    requires { IsGiven (subcommand_rows_of matches.now) }
+    ensures { IfOk result (λ found. option_and_then (λ found. named found.0 found.1) (subcommand_rows_of matches.now) ≡ found) }
 {
     match matches.subcommand() {
         Some((word, inner)) => named(alloc, word, inner),
@@ -42,42 +45,96 @@ fn command_in(alloc: Global, matches: &ArgMatches<'_>) -> Result<Command, AllocE
     }
 }
 
-// The command of this name, with the values of its matches.
-fn named(alloc: Global, word: &str, matches: &ArgMatches<'_>) -> Result<Command, AllocError>
-    requires { is_some (named word.now (rows_of (found_of matches.now))) ≡ true }
-    ensures { IfOk result (λ command. named word.now (rows_of (found_of matches.now)) ≡ Some command) }
+// The command of this name, with the values of its matches, or none where it names its bits by none of their words.
+fn named(alloc: Global, word: &str, matches: &ArgMatches<'_>) -> Result<Option<Command>, AllocError>
+    requires { misnames word.now (rows_of (found_of matches.now)) ≡ false → is_some (named word.now (rows_of (found_of matches.now))) ≡ true }
+    ensures { IfOk result (λ found. named word.now (rows_of (found_of matches.now)) ≡ found) }
 {
     if word == "prove" {
-        let budgets = budgets_in(matches);
-        Ok(Command::Prove { budgets })
+        Ok(prove_in(matches))
     } else if word == "only" {
-        let name = text_in(alloc, matches, "NAME")?;
-        let budgets = budgets_in(matches);
-        Ok(Command::Only { name, budgets })
+        only_in(alloc, matches)
     } else if word == "print" {
-        Ok(Command::Print)
+        Ok(Some(Command::Print))
     } else if word == "generated" {
         let copies = number_in(matches, "N") as u16;
-        Ok(Command::Generated { copies })
+        Ok(Some(Command::Generated { copies }))
     } else if word == "proof" {
         let budgets = budgets_in(matches);
-        Ok(Command::Proof { budgets })
+        Ok(Some(Command::Proof { budgets }))
     } else if word == "check" {
-        Ok(Command::Check)
+        Ok(Some(Command::Check))
     } else if word == "resume" {
         let budgets = budgets_in(matches);
-        Ok(Command::Resume { budgets })
+        Ok(Some(Command::Resume { budgets }))
     } else if word == "confirm" {
         let name = text_in(alloc, matches, "NAME")?;
         let sizes = sizes_in(alloc, matches)?;
         let budgets = budgets_in(matches);
-        Ok(Command::Confirm {
+        Ok(Some(Command::Confirm {
             name,
             sizes,
             budgets,
-        })
+        }))
     } else {
         unreachable!()
+    }
+}
+
+// The command that decides all units, or none where it names its bits by none of their words.
+fn prove_in(matches: &ArgMatches<'_>) -> Option<Command>
+    requires { is_some (bits_in (rows_of (found_of matches.now))) ≡ true → is_some (budgets_in (rows_of (found_of matches.now))) ≡ true }
+    ensures { result ≡ option_map (λ p. Prove p.0 p.1) (both (bits_in (rows_of (found_of matches.now))) (budgets_in (rows_of (found_of matches.now)))) }
+{
+    match bits_in(matches) {
+        Some(bits) => {
+            let budgets = budgets_in(matches);
+            Some(Command::Prove { bits, budgets })
+        }
+        None => None,
+    }
+}
+
+// The command that decides the unit of a name, or none where it names its bits by none of their words.
+fn only_in(alloc: Global, matches: &ArgMatches<'_>) -> Result<Option<Command>, AllocError>
+    requires name { is_some (bits_in (rows_of (found_of matches.now))) ≡ true → is_some (name_in (rows_of (found_of matches.now))) ≡ true }
+    requires budgets { is_some (bits_in (rows_of (found_of matches.now))) ≡ true → is_some (budgets_in (rows_of (found_of matches.now))) ≡ true }
+    ensures { IfOk result (λ found. option_map (λ p. Only p.0 p.1.0 p.1.1) (both (name_in (rows_of (found_of matches.now))) (both (bits_in (rows_of (found_of matches.now))) (budgets_in (rows_of (found_of matches.now))))) ≡ found) }
+{
+    match bits_in(matches) {
+        Some(bits) => {
+            let name = text_in(alloc, matches, "NAME")?;
+            let budgets = budgets_in(matches);
+            Ok(Some(Command::Only {
+                name,
+                bits,
+                budgets,
+            }))
+        }
+        None => Ok(None),
+    }
+}
+
+// The bits of a command, or none where they are named by none of their words.
+fn bits_in(matches: &ArgMatches<'_>) -> Option<Bits>
+    ensures { result ≡ bits_in (rows_of (found_of matches.now)) }
+{
+    match matches.get_str("bits") {
+        Some(word) => bits_named(word),
+        None => None,
+    }
+}
+
+// The bits that a word names.
+fn bits_named(word: &str) -> Option<Bits>
+    ensures { result ≡ bits_named word.now }
+{
+    if word == "near" {
+        Some(Bits::Near)
+    } else if word == "declared" {
+        Some(Bits::Declared)
+    } else {
+        None
     }
 }
 

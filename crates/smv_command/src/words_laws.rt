@@ -5,7 +5,7 @@ ghost use Rattle.smv_command.specs.Ranges.{IsInRange};
 ghost use Rattle.smv_command.specs.declared.commands.Command.{Command};
 ghost use Rattle.smv_command.specs.Commands.{AreTaken, command_of};
 
-/// Words are a command exactly where clap gives matches.
+/// Words are a command exactly where clap gives matches and bits are named by a word of theirs.
 pub fn commands_are_what_clap_takes()
     ensures { (words : List Text) → (is_some (command_of words) ≡ true) ↔ AreTaken words }
 {}

@@ -2,6 +2,7 @@
 ghost use Rattle.std.specs.Prelude.{◌≡◌, ◌≤◌, IfOk, None};
 ghost use Rattle.law_obligations.specs.Sets.{Has};
 ghost use Rattle.law_concrete.specs.Sizes.{case_fault};
+ghost use Rattle.smv_bits.specs.declared.Bits.TheVariants.{Declared};
 ghost use Rattle.law_reports.specs.Told.{IsToldBy};
 ghost use Rattle.smv_obligations.specs.Shared.{IsShared, shared_in};
 ghost use Rattle.smv_problem.specs.WellFormed.{IsProblemOf};
@@ -10,6 +11,7 @@ ghost use Rattle.smv_decide.specs.Leaves.{classes_in};
 ghost use Rattle.smv_concrete.specs.Subjects.{IsSized, IsSubject, case_in, cases_in, unit_of};
 ghost use Rattle.smv_confirm.specs.Cases.{AreNarrow};
 
+use smv_bits::Bits;
 use smv_concrete::concrete;
 use smv_concrete::subjects::Subject;
 use smv_core::flat::Case;
@@ -54,11 +56,11 @@ fn decide_case(
     requires case { Has (cases_in subject.now) case.now.classes }
     requires width { case_fault subject.now.design.now (unit_of subject.now) subject.now.sizes.now case.now.classes ≡ None }
     requires steps { 1 ≤ budgets.steps }
-    ensures decided { IfOk result (λ decided. IsDecided budgets.nodes budgets.steps (case_in subject.now case.now.classes) decided.decision) }
+    ensures decided { IfOk result (λ decided. IsDecided Declared budgets.nodes budgets.steps (case_in subject.now case.now.classes) decided.decision) }
     ensures shared { IfOk result (λ decided. IsShared subject.now.design.now decided.shared) }
 {
     let made = problem_of(alloc, subject, shared, case)?;
-    let decided = decide_problem(alloc, made, budgets)?;
+    let decided = decide_problem(alloc, made, Bits::Declared, budgets)?;
     Ok(decided)
 }
 
@@ -75,7 +77,7 @@ pub(crate) fn decide_cases(
     requires shared { IsShared subject.now.design.now shared }
     requires cases { AreNarrow subject.now cases.now }
     requires steps { 1 ≤ budgets.steps }
-    ensures { IfOk result (IsToldBy (case_in subject.now) budgets.nodes budgets.steps (classes_in cases.now)) }
+    ensures { IfOk result (IsToldBy (case_in subject.now) Declared budgets.nodes budgets.steps (classes_in cases.now)) }
 {
     let mut common = shared;
     for case in cases {

@@ -1,5 +1,5 @@
 -- What a search found, in another store and of the lists of a case.
-use Rattle.std.proofs.Common.{◌≡◌, ℕ, sym, ap, subst, List, map}
+use Rattle.std.proofs.Common.{◌≡◌, ℕ, sym, ap, subst, ◌∙◌, List, map}
 use Rattle.bdd_store.specs.declared.Ref.{Ref}
 use Rattle.bdd_store.specs.Diagram.{Diagram, IsLive}
 use Rattle.smv_rings.specs.declared.Rel.{Rel}
@@ -12,13 +12,20 @@ use Rattle.smv_search.specs.Keeping.{KeepsRefs}
 use Rattle.law_events.specs.Events.{IsFirstEvent}
 use Rattle.law_events.specs.Events.Event.{Reached}
 use Rattle.smv_search.proofs.Start.{lists_kept}
-use Rattle.law_obligations.specs.Readings.{PosedCase}
+use Rattle.law_obligations.specs.Readings.{PosedCase, state_bits}
 use Rattle.law_obligations.specs.CasePaths.{IsShortest}
 use Rattle.law_obligations.specs.May.{AbsState}
 use Rattle.smv_problem.specs.declared.problem.AbsState.{AbsState as StateData}
 use Rattle.smv_problem.specs.declared.problem.Problem.{Problem}
 use Rattle.smv_problem.specs.Written.{written, written_state}
 use Rattle.law_reports.specs.Reports.{IsShown}
+use Rattle.smv_core.specs.Values.{numbers_from}
+use Rattle.law_reports.specs.CaseLists.{case_lists}
+use Rattle.law_arrangements.specs.Orders.{arranged, IsOrder}
+use Rattle.law_arrangements.specs.ArrangedLists.{lists_over}
+use Rattle.law_arrangements.proofs.OrderLaws.{declared_order}
+use Rattle.law_arrangements.proofs.Declared.{declared_is_today}
+use Rattle.smv_problem.specs.WellFormed.{IsWellFormed, OfCases}
 use Rattle.smv_decide.specs.Decisions.{IsFound}
 
 -- the lists are the same after the search
@@ -33,3 +40,10 @@ reached_in d l m nodes steps depth o rings found e same = subst (λ (l : Lists).
 pub shown_by : (p : Problem) (c : PosedCase) (steps : ℕ) (states : List StateData) → p ≡ written c → (path : List AbsState) × IsShortest c.problem steps path × (states ≡ map (written_state c) path) → IsShown c steps p.elements states
 unfolding written
 shown_by p c steps states e s = record { states = s.0; is_shortest = s.1; elements_are = ap (λ (q : Problem). q.elements) e; path_is = s.2 }
+
+-- over the declared order the lists of a case are its own
+pub lists_declared : (p : Problem) (l : Lists) (order shown : List ℕ) → shown ≡ order → OfCases p (λ c. order ≡ numbers_from 0 (state_bits c)) → OfCases p (λ c. l ≡ case_lists c) → OfCases p (λ c. l ≡ lists_over c (arranged shown))
+lists_declared p l order shown e declared lists c is well = lists c is well ∙ sym (ap (λ (os : List ℕ). lists_over c (arranged os)) (e ∙ declared c is well) ∙ declared_is_today c well.is_case)
+
+pub order_declared : (p : Problem) (order shown : List ℕ) → shown ≡ order → OfCases p (λ c. order ≡ numbers_from 0 (state_bits c)) → OfCases p (λ c. IsOrder (state_bits c) shown)
+order_declared p order shown e declared c is well = subst (IsOrder (state_bits c)) (sym (e ∙ declared c is well)) (declared_order (state_bits c))

@@ -1,3 +1,4 @@
 pub mod Decisions
 pub mod Tasks
 pub mod Leaves
+pub mod Tries

@@ -7,6 +7,7 @@ ghost use Rattle.smv_decide.specs.Tasks.{IsTask, case_in};
 
 use crate::tasks::Task;
 use crate::{Decision, decide_case};
+use smv_bits::Bits;
 use smv_core::Seq;
 use smv_core::flat::Case;
 use smv_obligations::Shared;
@@ -27,18 +28,19 @@ pub fn decide_cases(
     shared: Shared,
     task: &Task,
     cases: &[Case],
+    bits: Bits,
     budgets: Budgets,
 ) -> Result<Told, AllocError>
     requires shared { IsShared task.now.design.now shared }
     requires task { IsTask task.now }
     requires cases { AreCases task.now.design.now task.now.leaf.now task.now.choice.now cases.now }
     requires steps { 1 ≤ budgets.steps }
-    ensures told { IfOk result (λ told. IsToldBy (case_in task.now) budgets.nodes budgets.steps (classes_in cases.now) told.verdict) }
+    ensures told { IfOk result (λ told. IsToldBy (case_in task.now) bits budgets.nodes budgets.steps (classes_in cases.now) told.verdict) }
     ensures shared { IfOk result (λ told. IsShared task.now.design.now told.shared) }
 {
     let mut common = shared;
     for case in cases {
-        let decided = decide_case(alloc, common, task, case, budgets)?;
+        let decided = decide_case(alloc, common, task, case, bits, budgets)?;
         common = decided.shared;
         let verdict = verdict_at(alloc, case, decided.decision)?;
         match verdict {

@@ -10,18 +10,24 @@ ghost use Rattle.law_reports.specs.CaseLists.{IsListsOf};
 ghost use Rattle.smv_problem.specs.WellFormed.{IsProblem, IsProblemOf, OfCases};
 ghost use Rattle.law_problems.specs.Parts.{IsCaseOf, width_fault};
 ghost use Rattle.smv_obligations.specs.Shared.{IsShared, shared_in};
+ghost use Rattle.smv_bits.specs.declared.Bits.TheVariants.{Near, Declared};
 ghost use Rattle.smv_decide.specs.declared.Decision.TheVariants.{False};
 ghost use Rattle.smv_decide.specs.Decisions.{IsDecided, IsFound};
+ghost use Rattle.law_reports.specs.Verdicts.{MayBeTold};
+ghost use Rattle.smv_decide.specs.Tries.{IsTried};
 ghost use Rattle.smv_decide.specs.Tasks.{IsTask, case_in};
 
 pub mod leaves;
 pub mod tasks;
+pub mod tries;
 
 use bdd_store::Store;
+use smv_bits::Bits;
 use smv_core::Seq;
 use smv_core::flat::{Case, Element};
 pub use smv_encode::relations;
 use smv_obligations::{ProblemParts, Shared, problem_with, taken_apart, taken_back};
+use smv_orders::declared_order;
 use smv_problem::{AbsState, Budgets, Problem};
 use smv_readings::state_bits;
 use smv_rings::Rel;
@@ -29,6 +35,7 @@ use smv_search::{Outcome, search};
 use smv_trace::path;
 use std::alloc::{AllocError, Global};
 use tasks::Task;
+use tries::{Tried, tries};
 
 /// What is decided of a case.
 #[derive(Drop)]
@@ -55,7 +62,7 @@ pub struct Decided {
     pub shared: Shared,
 }
 
-/// What the outcome of a search says of the problem, with a shortest path where it reaches a violation. What the problems of all cases of the design have in common is given back with it.
+/// What the outcome of a search over the declared lists says of the problem, with a shortest path where it reaches a violation. What the problems of all cases of the design have in common is given back with it.
 pub fn tell(
     alloc: Global,
     problem: Problem,
@@ -68,7 +75,7 @@ pub fn tell(
     requires rel { IsRel store.old rel.now }
     requires lists { OfCases problem (λ c. IsListsOf c (lists_of store.old rel.now)) }
     requires found { IsFound store.old (lists_of store.old rel.now) budgets.nodes budgets.steps outcome }
-    ensures decided { IfOk result (λ decided. OfCases problem (λ c. IsDecided budgets.nodes budgets.steps c decided.decision)) }
+    ensures decided { IfOk result (λ decided. OfCases problem (λ c. IsDecided Declared budgets.nodes budgets.steps c decided.decision)) }
     ensures shared { IfOk result (λ decided. decided.shared ≡ shared_in problem) }
 {
     match outcome {
@@ -77,7 +84,9 @@ pub fn tell(
             shared: taken_back(problem),
         }),
         Outcome::Reaches { depth, rings } => {
-            let states = path(alloc, &problem, rel, store, &rings, depth)?;
+            let order = declared_order(alloc, &problem)?;
+            let order = order.as_slice();
+            let states = path(alloc, &problem, rel, store, order, &rings, depth)?;
             Ok(shown(problem, states))
         }
         Outcome::OutOfNodes { count } => Ok(Decided {
@@ -135,15 +144,64 @@ pub fn problem_of(
     }
 }
 
-/// Decides a problem, under budgets of nodes and of images. What the problems of all cases of the design have in common is given back with it.
+/// Decides a problem over bits that stand so, under budgets of nodes and of images. What the problems of all cases of the design have in common is given back with it.
 pub fn decide_problem(
     alloc: Global,
     problem: Problem,
+    bits: Bits,
     budgets: Budgets,
 ) -> Result<Decided, AllocError>
     requires problem { IsProblem problem }
     requires steps { 1 ≤ budgets.steps }
-    ensures decided { IfOk result (λ decided. OfCases problem (λ c. IsDecided budgets.nodes budgets.steps c decided.decision)) }
+    ensures decided { IfOk result (λ decided. OfCases problem (λ c. IsDecided bits budgets.nodes budgets.steps c decided.decision)) }
+    ensures shared { IfOk result (λ decided. decided.shared ≡ shared_in problem) }
+{
+    match bits {
+        Bits::Near => over_near(alloc, problem, budgets),
+        Bits::Declared => over_declared(alloc, problem, budgets),
+    }
+}
+
+// Decides a problem by tries over more than one order of its bits.
+fn over_near(alloc: Global, problem: Problem, budgets: Budgets) -> Result<Decided, AllocError>
+    requires problem { IsProblem problem }
+    requires steps { 1 ≤ budgets.steps }
+    ensures decided { IfOk result (λ decided. OfCases problem (λ c. IsDecided Near budgets.nodes budgets.steps c decided.decision)) }
+    ensures shared { IfOk result (λ decided. decided.shared ≡ shared_in problem) }
+{
+    let tried = tries(alloc, &problem, budgets)?;
+    Ok(decided_by(problem, tried, budgets))
+}
+
+// What is decided by what tries find.
+fn decided_by(problem: Problem, tried: Tried, budgets: Budgets) -> Decided
+    requires tried { OfCases problem (λ c. IsTried (MayBeTold budgets.nodes budgets.steps c) c tried) }
+    ensures decided { OfCases problem (λ c. IsDecided Near budgets.nodes budgets.steps c result.decision) }
+    ensures shared { result.shared ≡ shared_in problem }
+{
+    let _ = budgets;
+    match tried {
+        Tried::Safe => Decided {
+            decision: Decision::True,
+            shared: taken_back(problem),
+        },
+        Tried::Broken { path } => shown(problem, path),
+        Tried::OutOfNodes { count } => Decided {
+            decision: Decision::UnknownNodes { count },
+            shared: taken_back(problem),
+        },
+        Tried::OutOfSteps => Decided {
+            decision: Decision::UnknownSteps,
+            shared: taken_back(problem),
+        },
+    }
+}
+
+// Decides a problem over its declared lists.
+fn over_declared(alloc: Global, problem: Problem, budgets: Budgets) -> Result<Decided, AllocError>
+    requires problem { IsProblem problem }
+    requires steps { 1 ≤ budgets.steps }
+    ensures decided { IfOk result (λ decided. OfCases problem (λ c. IsDecided Declared budgets.nodes budgets.steps c decided.decision)) }
     ensures shared { IfOk result (λ decided. decided.shared ≡ shared_in problem) }
 {
     let bits = state_bits(&problem);
@@ -154,13 +212,14 @@ pub fn decide_problem(
     Ok(decided)
 }
 
-/// Decides a case of a leaf that has not too many state bits, under budgets of nodes and of images. What the problems of all cases of the design have in common is
+/// Decides a case of a leaf that has not too many state bits, over bits that stand so, under budgets of nodes and of images. What the problems of all cases of the design have in common is
 /// moved in, and given back.
 pub(crate) fn decide_case(
     alloc: Global,
     shared: Shared,
     task: &Task,
     case: &Case,
+    bits: Bits,
     budgets: Budgets,
 ) -> Result<Decided, AllocError>
     requires shared { IsShared task.now.design.now shared }
@@ -168,10 +227,10 @@ pub(crate) fn decide_case(
     requires case { IsCaseOf task.now.design.now task.now.leaf.now task.now.choice.now case.now.classes }
     requires width { width_fault task.now.design.now task.now.leaf.now task.now.choice.now case.now.classes ≡ None }
     requires steps { 1 ≤ budgets.steps }
-    ensures decided { IfOk result (λ decided. IsDecided budgets.nodes budgets.steps (case_in task.now case.now.classes) decided.decision) }
+    ensures decided { IfOk result (λ decided. IsDecided bits budgets.nodes budgets.steps (case_in task.now case.now.classes) decided.decision) }
     ensures shared { IfOk result (λ decided. IsShared task.now.design.now decided.shared) }
 {
     let made = problem_of(alloc, shared, task, case)?;
-    let decided = decide_problem(alloc, made, budgets)?;
+    let decided = decide_problem(alloc, made, bits, budgets)?;
     Ok(decided)
 }

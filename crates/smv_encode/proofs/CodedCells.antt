@@ -23,7 +23,7 @@ use Rattle.law_worlds.proofs.Worlds.{world_of_case}
 use Rattle.smv_problem.specs.declared.problem.Problem.{Problem}
 use Rattle.smv_problem.specs.Written.{written, written_element, written_class, written_type}
 use Rattle.smv_problem.specs.WellFormed.{IsWellFormed, IsProblem, OfCases}
-use Rattle.smv_readings.specs.StateBits.{count_for, bits_of_family, bits_of_elements}
+use Rattle.smv_readings.specs.StateBits.{count_for, bits_of_family, bits_of_elements, bits_in}
 use Rattle.smv_readings.proofs.Counts.{values-counted, bits-of-cases}
 use Rattle.smv_readings.proofs.Written.{slot_found}
 use Rattle.smv_readings.proofs.Spelling.{bits_short}
@@ -33,8 +33,9 @@ use Rattle.smv_spots.specs.declared.spots.Spot.{Spot}
 use Rattle.smv_spots.specs.Spots.{place_in}
 use Rattle.smv_problem_spots.specs.Worlds.{IsWorldOf}
 use Rattle.bdd_store.specs.declared.Ref.{Ref}
-use Rattle.bdd_store.specs.Diagram.{Diagram, IsLive, Keeps, table}
-use Rattle.bdd_codes.specs.Codes.{bits_at, code_at, AreFrom, AreValues}
+use Rattle.bdd_store.specs.Diagram.{Diagram, IsLive, AreLive, Keeps, table}
+use Rattle.bdd_codes.specs.Codes.{bits_at, code_at, AreValues}
+use Rattle.law_arrangements.specs.Arrangements.{spread}
 use Rattle.smv_conditions.specs.declared.offers.Offer.{Offer}
 use Rattle.smv_conditions.specs.Keep.{KeepsConditions}
 use Rattle.smv_conditions.specs.Offers.{AreOffersMade}
@@ -43,6 +44,9 @@ use Rattle.smv_cells.specs.declared.cells.Cell.{Cell}
 use Rattle.smv_cells.specs.Cells.{is_cell_of, AreCellsMade}
 use Rattle.smv_cells.specs.Seen.{IsView, IsSeen}
 use Rattle.smv_cells.proofs.SeenLaws.{cells_kept}
+use Rattle.smv_orders.specs.Places.{ArePlaces}
+use Rattle.smv_orders.proofs.Orders.{places_apart}
+use Rattle.smv_encode.proofs.Placed.{code_placed}
 use Rattle.smv_encode.specs.Coded.{state_at, view_at, paired, HaveValues, AreAmong, IsCoded, AreCoded}
 use Rattle.smv_encode.proofs.Paired.{coded_value, paired_made}
 
@@ -66,18 +70,19 @@ module _ (p : Problem) (c : PosedCase) (is : p ≡ written c) where
 
   -- ---- the cell of an element
 
-  module _ (d : Diagram) (next : Bool) (bit : ℕ) where
-    pub made_cell : (world : IsWorldOf p c.problem.world) (x : AbsElement) (x' : Element) → x' ≡ written_element x → (width count : ℕ) → width ≡ bits_of_family p.families p.lists p.types x'.family → count ≡ count_for p.lists p.types (slice_get p.families x'.family) → 1 ≤ count
-        → (spots : List Spot) → ((w : World) → IsWorldOf p w → map (place_in w.classes) spots ≡ values_in w (slice_get w.classes.families x'.family)) → (rs : List Ref) → length rs ≡ count → AreValues d next bit width rs
+  module _ (d : Diagram) (order : List ℕ) (next : Bool) (bit : ℕ) (places : List ℕ) (placed : ArePlaces order bit places) where
+    pub made_cell : (world : IsWorldOf p c.problem.world) (x : AbsElement) (x' : Element) → x' ≡ written_element x → (count : ℕ) → length places ≡ bits_of_family p.families p.lists p.types x'.family → count ≡ count_for p.lists p.types (slice_get p.families x'.family) → 1 ≤ count
+        → (spots : List Spot) → ((w : World) → IsWorldOf p w → map (place_in w.classes) spots ≡ values_in w (slice_get w.classes.families x'.family)) → (rs : List Ref) → length rs ≡ count → AreValues d next places rs
         → (indexes : List Spot) → map (place_in c.problem.world.classes) indexes ≡ x.indexes
-        → IsCoded c d next bit x (record { family = x'.family; indexes = indexes; values = paired spots rs })
-    made_cell world x x' e width count wide many some spots values rs long each indexes at = record {
+        → IsCoded c order d next bit x (record { family = x'.family; indexes = indexes; values = paired spots rs })
+    made_cell world x x' e count wide many some spots values rs long each indexes at = record {
       family = same;
       indexes = at;
       values = λ a q.
-          coded_value c.problem.world.classes d a q (values_of c.problem.world x) spots rs (code_at next bit width a) are (long ∙ many ∙ count_is x'.family ∙ sym length_spots)
+          coded_value c.problem.world.classes d a q (values_of c.problem.world x) spots rs (code_at next places a) are (long ∙ many ∙ count_is x'.family ∙ sym length_spots)
           (let all = length_spots in let counted = count_is x'.family in omega (arith, all, counted, many, some)) (λ k lt. each k lt a)
-          ∙ ap (λ (n : ℕ). q (Some (value_of_code (values_of c.problem.world x) (code_at next bit n a)))) (wide ∙ ap (λ (family : ℕ). bits_of_family p.families p.lists p.types family) same ∙ width_is x);
+          ∙ ap (λ (n : ℕ). q (Some (value_of_code (values_of c.problem.world x) n))) (code_placed order next a bit places placed)
+          ∙ ap (λ (n : ℕ). q (Some (value_of_code (values_of c.problem.world x) (code_from (spread order (bits_at next a)) bit n)))) (wide ∙ ap (λ (family : ℕ). bits_of_family p.families p.lists p.types family) same ∙ width_is x);
     }
       where
         same : x'.family ≡ x.family
@@ -95,8 +100,8 @@ module _ (p : Problem) (c : PosedCase) (is : p ≡ written c) where
 
 -- ---- cells stay those of their elements
 
-pub coded_kept : (c : PosedCase) (d e : Diagram) (next : Bool) (bit : ℕ) (x : AbsElement) (cell : Cell Ref) → Keeps d e → AreOffersMade (IsLive d) cell.values → IsCoded c d next bit x cell → IsCoded c e next bit x cell
-coded_kept c d e next bit x cell k made h = record {
+pub coded_kept : (c : PosedCase) (order : List ℕ) (d e : Diagram) (next : Bool) (bit : ℕ) (x : AbsElement) (cell : Cell Ref) → Keeps d e → AreOffersMade (IsLive d) cell.values → IsCoded c order d next bit x cell → IsCoded c order e next bit x cell
+coded_kept c order d e next bit x cell k made h = record {
   family = h.family;
   indexes = h.indexes;
   values = λ a p. offers_same c.problem.world.classes IsLive table (λ (s : Diagram). s.vars) a p d e cell.values (kept_conditions d e k) made ∙ h.values a p;
@@ -104,13 +109,13 @@ coded_kept c d e next bit x cell k made h = record {
 
 -- ---- each of them is the cell of a slot
 
-has_slot : (c : PosedCase) (d : Diagram) (next : Bool) (b : ℕ) (xs : List AbsElement) (cells : List (Cell Ref)) → AreCoded c d next b xs cells → (cell : Cell Ref) → Has cells cell →
-    (slot : Slot) × Has (slots_from c.problem.world b xs) slot × IsCoded c d next slot.bit slot.element cell
-has_slot c d next b [] [] are cell h = elim h [ ]
-has_slot c d next b [] (y ∷ cells) are cell h = absurd are
-has_slot c d next b (x ∷ xs) [] are cell h = absurd are
-has_slot c d next b (x ∷ xs) (y ∷ cells) are _ first = (record { element = x; bit = b }, first, are.0)
-has_slot c d next b (x ∷ xs) (y ∷ cells) are cell (later h) = let r = has_slot c d next (b + bits_of c.problem.world x) xs cells are.1 cell h in (r.0, later r.1, r.2)
+has_slot : (c : PosedCase) (order : List ℕ) (d : Diagram) (next : Bool) (b : ℕ) (xs : List AbsElement) (cells : List (Cell Ref)) → AreCoded c order d next b xs cells → (cell : Cell Ref) → Has cells cell →
+    (slot : Slot) × Has (slots_from c.problem.world b xs) slot × IsCoded c order d next slot.bit slot.element cell
+has_slot c order d next b [] [] are cell h = elim h [ ]
+has_slot c order d next b [] (y ∷ cells) are cell h = absurd are
+has_slot c order d next b (x ∷ xs) [] are cell h = absurd are
+has_slot c order d next b (x ∷ xs) (y ∷ cells) are _ first = (record { element = x; bit = b }, first, are.0)
+has_slot c order d next b (x ∷ xs) (y ∷ cells) are cell (later h) = let r = has_slot c order d next (b + bits_of c.problem.world x) xs cells are.1 cell h in (r.0, later r.1, r.2)
 
 same_both : (x y : AbsElement) → same_element x y ≡ true → same_element y x ≡ true
 same_both x y e =
@@ -126,55 +131,50 @@ same_turned x y = elim (cases_Bool (same_element x y)) [
   ]
 ]
 
-cells_of_elements : (c : PosedCase) (d : Diagram) (next : Bool) (b : ℕ) (xs : List AbsElement) (cells : List (Cell Ref)) → AreCoded c d next b xs cells → (family : ℕ) (ps : List Place) →
+cells_of_elements : (c : PosedCase) (order : List ℕ) (d : Diagram) (next : Bool) (b : ℕ) (xs : List AbsElement) (cells : List (Cell Ref)) → AreCoded c order d next b xs cells → (family : ℕ) (ps : List Place) →
     list_any (same_element (element family ps)) xs ≡ list_any (is_cell_of c.problem.world.classes family ps) cells
-cells_of_elements c d next b [] [] are family ps = refl
-cells_of_elements c d next b [] (y ∷ cells) are family ps = absurd are
-cells_of_elements c d next b (x ∷ xs) [] are family ps = absurd are
-cells_of_elements c d next b (x ∷ xs) (y ∷ cells) are family ps =
+cells_of_elements c order d next b [] [] are family ps = refl
+cells_of_elements c order d next b [] (y ∷ cells) are family ps = absurd are
+cells_of_elements c order d next b (x ∷ xs) [] are family ps = absurd are
+cells_of_elements c order d next b (x ∷ xs) (y ∷ cells) are family ps =
     let h = are.0 in
     ap (λ (z : Bool). z || list_any (same_element (element family ps)) xs)
     (same_turned (element family ps) x
     ∙ ap (λ (f : ℕ). nat_eq f family && same_places x.indexes ps) (sym h.family)
     ∙ ap (λ (qs : List Place). nat_eq y.family family && same_places qs ps) (sym h.indexes))
-    ∙ ap (λ (z : Bool). is_cell_of c.problem.world.classes family ps y || z) (cells_of_elements c d next (b + bits_of c.problem.world x) xs cells are.1 family ps)
+    ∙ ap (λ (z : Bool). is_cell_of c.problem.world.classes family ps y || z) (cells_of_elements c order d next (b + bits_of c.problem.world x) xs cells are.1 family ps)
 
 -- ---- so they are seen
 
-pub case_view : (c : PosedCase) (next : Bool) → IsWellFormed c → IsView (view_at c next)
-case_view c next well = record { filled = λ a e b. case_filled c well (state_at c next a) e b }
+pub case_view : (c : PosedCase) (order : List ℕ) (next : Bool) → IsWellFormed c → IsView (view_at c order next)
+case_view c order next well = record { filled = λ a e b. case_filled c well (state_at c order next a) e b }
 
-code_is : (next : Bool) (bit width : ℕ) (a : ℕ → Bool) → code_at next bit width a ≡ code_from (bits_at next a) bit width
-unfolding code_at
-code_is next bit width a = refl
-
-pub coded_seen : (c : PosedCase) (d : Diagram) (next : Bool) (p : Problem) (cells : List (Cell Ref)) → IsWellFormed c → IsWorldOf p c.problem.world → AreCoded c d next 0 c.elements cells → IsSeen table d p cells (view_at c next)
-coded_seen c d next p cells well world are = record {
-  view = case_view c next well;
+pub coded_seen : (c : PosedCase) (order : List ℕ) (d : Diagram) (next : Bool) (p : Problem) (cells : List (Cell Ref)) → IsWellFormed c → IsWorldOf p c.problem.world → AreCoded c order d next 0 c.elements cells → IsSeen table d p cells (view_at c order next)
+coded_seen c order d next p cells well world are = record {
+  view = case_view c order next well;
   world = world;
   values = λ a q cell h.
-      let r = has_slot c d next 0 c.elements cells are cell h in
+      let r = has_slot c order d next 0 c.elements cells are cell h in
       let slot : Slot = r.0 in
-      let s : Bits = bits_at next a in
+      let s : Bits = spread order (bits_at next a) in
       r.2.values a q
       ∙ ap (λ (v : Place). q (Some v)) (
-      ap (value_of_code (values_of c.problem.world slot.element)) (code_is next slot.bit (bits_of c.problem.world slot.element) a)
-      ∙ sym (reads_slot c s slot.element.family slot.element.indexes (Some slot) (slot_found c.problem.world 0 c.elements well.elements slot r.1))
+      sym (reads_slot c s slot.element.family slot.element.indexes (Some slot) (slot_found c.problem.world 0 c.elements well.elements slot r.1))
       ∙ ap (λ (f : ℕ). reading c s f slot.element.indexes) (sym r.2.family)
       ∙ ap (λ (ps : List Place). reading c s cell.family ps) (sym r.2.indexes)
       );
-  kept = λ family ps. ap (λ (keeps : ℕ → List Place → Bool). keeps family ps) well.is_case.are_kept ∙ cells_of_elements c d next 0 c.elements cells are family ps;
+  kept = λ family ps. ap (λ (keeps : ℕ → List Place → Bool). keeps family ps) well.is_case.are_kept ∙ cells_of_elements c order d next 0 c.elements cells are family ps;
 }
 
 -- ---- "the code is that of a value"
 
-pub value_is : (p : Problem) (c : PosedCase) (is : p ≡ written c) (next : Bool) (bit width count family : ℕ) → width ≡ bits_of_family p.families p.lists p.types family → count ≡ count_for p.lists p.types (slice_get p.families family) → (x : AbsElement) → x.family ≡ family → (a : ℕ → Bool)
-    → nat_lt (code_at next bit width a) count ≡ is_value c.problem.world (bits_at next a) (record { element = x; bit = bit })
-unfolding code_at
-value_is p c is next bit width count family wide many x same a =
-    let wide' : width ≡ bits_of c.problem.world x = wide ∙ ap (λ (f : ℕ). bits_of_family p.families p.lists p.types f) (sym same) ∙ width_is p c is x in
+pub value_is : (p : Problem) (c : PosedCase) (is : p ≡ written c) (next : Bool) (places : List ℕ) (count family : ℕ) → length places ≡ bits_of_family p.families p.lists p.types family → count ≡ count_for p.lists p.types (slice_get p.families family) → (x : AbsElement) → x.family ≡ family → (order : List ℕ) (bit : ℕ) → ArePlaces order bit places → (a : ℕ → Bool)
+    → nat_lt (code_at next places a) count ≡ is_value c.problem.world (spread order (bits_at next a)) (record { element = x; bit = bit })
+value_is p c is next places count family wide many x same order bit placed a =
+    let wide' : length places ≡ bits_of c.problem.world x = wide ∙ ap (λ (f : ℕ). bits_of_family p.families p.lists p.types f) (sym same) ∙ width_is p c is x in
     let many' : count ≡ length (values_of c.problem.world x) = many ∙ ap (λ (f : ℕ). count_for p.lists p.types (slice_get p.families f)) (sym same) ∙ count_is p c is x.family in
-    ap (λ (n : ℕ). nat_lt (code_from (bits_at next a) bit n) count) wide' ∙ ap (λ (n : ℕ). nat_lt (code_from (bits_at next a) bit (bits_of c.problem.world x)) n) many'
+    let s : Bits = spread order (bits_at next a) in
+    ap (λ (n : ℕ). nat_lt n count) (code_placed order next a bit places placed) ∙ ap (λ (n : ℕ). nat_lt (code_from s bit n) count) wide' ∙ ap (λ (n : ℕ). nat_lt (code_from s bit (bits_of c.problem.world x)) n) many'
 
 -- ---- what the calls need
 
@@ -216,17 +216,17 @@ placed_indexes p c is well x x' h e spots at =
 
 -- ---- the cell of an element, and those behind it
 
-pub whole_cell : (d : Diagram) (next : Bool) (bit : ℕ) (p : Problem) (x' : Element) (width count : ℕ) → width ≡ bits_of_family p.families p.lists p.types x'.family → count ≡ count_for p.lists p.types (slice_get p.families x'.family) → 1 ≤ count
-    → (spots shown : List Spot) → shown ≡ spots → ((w : World) → IsWorldOf p w → map (place_in w.classes) spots ≡ values_in w (slice_get w.classes.families x'.family)) → (rs seen : List Ref) → seen ≡ rs → length rs ≡ count → AreValues d next bit width rs
+pub whole_cell : (d : Diagram) (next : Bool) (places : List ℕ) (p : Problem) (x' : Element) (count : ℕ) → length places ≡ bits_of_family p.families p.lists p.types x'.family → count ≡ count_for p.lists p.types (slice_get p.families x'.family) → 1 ≤ count
+    → (spots shown : List Spot) → shown ≡ spots → ((w : World) → IsWorldOf p w → map (place_in w.classes) spots ≡ values_in w (slice_get w.classes.families x'.family)) → (rs seen : List Ref) → seen ≡ rs → length rs ≡ count → AreValues d next places rs
     → (indexes : List Spot) → indexes ≡ class_spots (over_of (slice_get p.families x'.family)) x'.indexes → (offers : List (Offer Ref)) → offers ≡ paired shown seen
-    → OfCases p (λ c. (x : AbsElement) → Has c.elements x → x' ≡ written_element x → IsCoded c d next bit x (record { family = x'.family; indexes = indexes; values = offers }))
-whole_cell d next bit p x' width count wide many some spots shown es values rs seen er long each indexes at offers paired_so c is well x h e =
-    subst (λ (os : List (Offer Ref)). IsCoded c d next bit x (record { family = x'.family; indexes = indexes; values = os })) (sym (paired_so ∙ ap (λ (ps : List Spot). paired ps seen) es ∙ ap (λ (qs : List Ref). paired spots qs) er))
-    (made_cell p c is d next bit (problem_world p c is well) x x' e width count wide many some spots values rs long each indexes (placed_indexes p c is well x x' h e indexes at))
+    → OfCases p (λ c. (x : AbsElement) → Has c.elements x → x' ≡ written_element x → (order : List ℕ) (bit : ℕ) → ArePlaces order bit places → IsCoded c order d next bit x (record { family = x'.family; indexes = indexes; values = offers }))
+whole_cell d next places p x' count wide many some spots shown es values rs seen er long each indexes at offers paired_so c is well x h e order bit placed =
+    subst (λ (os : List (Offer Ref)). IsCoded c order d next bit x (record { family = x'.family; indexes = indexes; values = os })) (sym (paired_so ∙ ap (λ (ps : List Spot). paired ps seen) es ∙ ap (λ (qs : List Ref). paired spots qs) er))
+    (made_cell p c is d order next bit places placed (problem_world p c is well) x x' e count wide many some spots values rs long each indexes (placed_indexes p c is well x x' h e indexes at))
 
-pub values_made : (d : Diagram) (var : ℕ) (spots shown : List Spot) → (rs seen : List Ref) → seen ≡ rs → AreFrom d var rs → (offers : List (Offer Ref)) → offers ≡ paired shown seen → AreOffersMade (IsLive d) offers
-values_made d var spots shown rs seen er from offers is =
-    subst (AreOffersMade (IsLive d)) (sym (is ∙ ap (λ (qs : List Ref). paired shown qs) er)) (paired_made d shown rs (λ i lt. (from i lt).live))
+pub values_made : (d : Diagram) (spots shown : List Spot) → (rs seen : List Ref) → seen ≡ rs → AreLive d rs → (offers : List (Offer Ref)) → offers ≡ paired shown seen → AreOffersMade (IsLive d) offers
+values_made d spots shown rs seen er from offers is =
+    subst (AreOffersMade (IsLive d)) (sym (is ∙ ap (λ (qs : List Ref). paired shown qs) er)) (paired_made d shown rs from)
 
 pub first_has : (p : Problem) (elements others : List Element) (x : Element) → elements ≡ x ∷ others → HaveValues p elements → 1 ≤ count_for p.lists p.types (slice_get p.families x.family)
 first_has p elements others x e have = have x (subst (λ (xs : List Element). Has xs x) (sym e) first)
@@ -246,12 +246,12 @@ more_made d e cells more cell k made is pushed =
     by [] m = (is, tt)
     by (c ∷ cs) m = (m.0, by cs m.1)
 
-pub coded_more : (p : Problem) (d e : Diagram) (next : Bool) (bit width : ℕ) (elements others : List Element) (x' : Element) (old mid new : List (Cell Ref)) (cell : Cell Ref) → elements ≡ x' ∷ others → mid ≡ old ++ cell ∷ [] → Keeps d e → AreOffersMade (IsLive d) cell.values
-    → width ≡ bits_of_family p.families p.lists p.types x'.family → OfCases p (λ c. (x : AbsElement) → Has c.elements x → x' ≡ written_element x → IsCoded c d next bit x cell)
-    → ((rest : List (Cell Ref)) × (new ≡ mid ++ rest) × OfCases p (λ c. (xs : List AbsElement) → AreAmong c.elements xs → others ≡ map written_element xs → AreCoded c e next (bit + width) xs rest))
-    → ((more : List (Cell Ref)) × (new ≡ old ++ more) × OfCases p (λ c. (xs : List AbsElement) → AreAmong c.elements xs → elements ≡ map written_element xs → AreCoded c e next bit xs more))
-coded_more p d e next bit width elements others x' old mid new cell is pushed k made wide one more =
-    (cell ∷ more.0, more.1 ∙ ap (λ (cs : List (Cell Ref)). cs ++ more.0) pushed ∙ append_assoc old (cell ∷ []) more.0, λ c same well xs among e_xs. by c same well xs among (sym is ∙ e_xs))
+pub coded_more : (p : Problem) (d e : Diagram) (next : Bool) (own behind places : List ℕ) (elements others : List Element) (x' : Element) (old mid new : List (Cell Ref)) (cell : Cell Ref) → elements ≡ x' ∷ others → mid ≡ old ++ cell ∷ [] → Keeps d e → AreOffersMade (IsLive d) cell.values
+    → places ≡ own ++ behind → length own ≡ bits_of_family p.families p.lists p.types x'.family → OfCases p (λ c. (x : AbsElement) → Has c.elements x → x' ≡ written_element x → (order : List ℕ) (bit : ℕ) → ArePlaces order bit own → IsCoded c order d next bit x cell)
+    → ((rest : List (Cell Ref)) × (new ≡ mid ++ rest) × OfCases p (λ c. (xs : List AbsElement) → AreAmong c.elements xs → others ≡ map written_element xs → (order : List ℕ) (bit : ℕ) → ArePlaces order bit behind → AreCoded c order e next bit xs rest))
+    → ((more : List (Cell Ref)) × (new ≡ old ++ more) × OfCases p (λ c. (xs : List AbsElement) → AreAmong c.elements xs → elements ≡ map written_element xs → (order : List ℕ) (bit : ℕ) → ArePlaces order bit places → AreCoded c order e next bit xs more))
+coded_more p d e next own behind places elements others x' old mid new cell is pushed k made parts wide one more =
+    (cell ∷ more.0, more.1 ∙ ap (λ (cs : List (Cell Ref)). cs ++ more.0) pushed ∙ append_assoc old (cell ∷ []) more.0, λ c same well xs among e_xs order bit placed. by c same well xs among (sym is ∙ e_xs) order bit (places_apart order bit own behind (subst (ArePlaces order bit) parts placed)))
   where
     head_is : {u v : Element} {us vs : List Element} → u ∷ us ≡ v ∷ vs → u ≡ v
     head_is e = cc
@@ -259,12 +259,12 @@ coded_more p d e next bit width elements others x' old mid new cell is pushed k 
     tail_is : {u v : Element} {us vs : List Element} → u ∷ us ≡ v ∷ vs → us ≡ vs
     tail_is e = cc
 
-    by : (c : PosedCase) → p ≡ written c → IsWellFormed c → (xs : List AbsElement) → AreAmong c.elements xs → x' ∷ others ≡ map written_element xs → AreCoded c e next bit xs (cell ∷ more.0)
-    by c same well [] among f = absurd (cc)
-    by c same well (x ∷ xs) among f =
-        let same_width : width ≡ bits_of c.problem.world x = wide ∙ ap (λ (y : Element). bits_of_family p.families p.lists p.types y.family) (head_is f) ∙ width_is p c same x in (
-          coded_kept c d e next bit x cell k made (one c same well x (among x first) (head_is f)),
-          subst (λ (n : ℕ). AreCoded c e next (bit + n) xs more.0) same_width (more.2 c same well xs (λ y h. among y (later h)) (tail_is f)),
+    by : (c : PosedCase) → p ≡ written c → IsWellFormed c → (xs : List AbsElement) → AreAmong c.elements xs → x' ∷ others ≡ map written_element xs → (order : List ℕ) (bit : ℕ) → ArePlaces order bit own × ArePlaces order (bit + length own) behind → AreCoded c order e next bit xs (cell ∷ more.0)
+    by c same well [] among f order bit placed = absurd (cc)
+    by c same well (x ∷ xs) among f order bit placed =
+        let same_width : length own ≡ bits_of c.problem.world x = wide ∙ ap (λ (y : Element). bits_of_family p.families p.lists p.types y.family) (head_is f) ∙ width_is p c same x in (
+          coded_kept c order d e next bit x cell k made (one c same well x (among x first) (head_is f) order bit placed.0),
+          subst (λ (n : ℕ). AreCoded c order e next (bit + n) xs more.0) same_width (more.2 c same well xs (λ y h. among y (later h)) (tail_is f) order (bit + length own) placed.1),
         )
 
 -- ---- all cells of a problem
@@ -285,16 +285,17 @@ all_have p (c, is, well) elements e x' h =
     let some = f.2 in
     omega (arith, many, some)
 
-pub all_room : (p : Problem) (elements : List Element) (vars : ℕ) → IsProblem p → elements ≡ p.elements → OfCases p (λ c. vars ≡ 2 * state_bits c) → 2 * (0 + bits_of_elements p.families p.lists p.types elements) ≤ vars
-all_room p elements vars (c, is, well) e all =
-    let is_vars = all c is well in
-    let bits : bits_of_elements p.families p.lists p.types elements ≡ state_bits c = ap (bits_of_elements p.families p.lists p.types) e ∙ bits-of-cases p c is in
-    omega (arith, is_vars, bits)
+pub all_room : (p : Problem) (elements : List Element) (n : ℕ) → elements ≡ p.elements → bits_in p ≤ n → bits_of_elements p.families p.lists p.types elements ≤ n
+all_room p elements n e room = subst (λ (xs : List Element). bits_of_elements p.families p.lists p.types xs ≤ n) (sym e) room
 
-pub all_seen : (p : Problem) (d : Diagram) (next : Bool) (elements : List Element) (old new : List (Cell Ref)) → elements ≡ p.elements → old ≡ []
-    → ((more : List (Cell Ref)) × (new ≡ old ++ more) × OfCases p (λ c. (xs : List AbsElement) → AreAmong c.elements xs → elements ≡ map written_element xs → AreCoded c d next 0 xs more))
-    → OfCases p (λ c. IsSeen table d p new (view_at c next))
+-- as many places as a case has bits are enough
+pub bits_room : (p : Problem) (n : ℕ) → IsProblem p → OfCases p (λ c. n ≡ state_bits c) → bits_in p ≤ n
+bits_room p n (c, is, well) all = let bits = bits-of-cases p c is in let count = all c is well in omega (arith, bits, count)
+
+pub all_seen : (p : Problem) (d : Diagram) (next : Bool) (places : List ℕ) (elements : List Element) (old new : List (Cell Ref)) → elements ≡ p.elements → old ≡ []
+    → ((more : List (Cell Ref)) × (new ≡ old ++ more) × OfCases p (λ c. (xs : List AbsElement) → AreAmong c.elements xs → elements ≡ map written_element xs → (order : List ℕ) (bit : ℕ) → ArePlaces order bit places → AreCoded c order d next bit xs more))
+    → OfCases p (λ c. (order : List ℕ) → ArePlaces order 0 places → IsSeen table d p new (view_at c order next))
 unfolding written
-all_seen p d next elements old new e none coded c is well =
-    subst (λ (cells : List (Cell Ref)). IsSeen table d p cells (view_at c next)) (sym (coded.1 ∙ ap (λ (cs : List (Cell Ref)). cs ++ coded.0) none))
-    (coded_seen c d next p coded.0 well (problem_world p c is well) (coded.2 c is well c.elements (λ x h. h) (e ∙ ap (λ (q : Problem). q.elements) is)))
+all_seen p d next places elements old new e none coded c is well order placed =
+    subst (λ (cells : List (Cell Ref)). IsSeen table d p cells (view_at c order next)) (sym (coded.1 ∙ ap (λ (cs : List (Cell Ref)). cs ++ coded.0) none))
+    (coded_seen c order d next p coded.0 well (problem_world p c is well) (coded.2 c is well c.elements (λ x h. h) (e ∙ ap (λ (q : Problem). q.elements) is) order 0 placed))

@@ -1,9 +1,11 @@
 pub mod ReadCases
 pub mod Calls
 pub mod Paired
+pub mod Placed
 pub mod CodedCells
 pub mod Choices
 pub mod Adds
 pub mod Whole
 pub mod Kept
 pub mod KnownCases
+pub mod Ordered

@@ -19,7 +19,6 @@ use Rattle.law_obligations.proofs.ConeFacts.{same_element-itself, same_element-f
 use Rattle.law_obligations.specs.Bits.{Bits}
 use Rattle.law_obligations.specs.Readings.{PosedCase, Slot, slots, reading}
 use Rattle.law_obligations.proofs.ReadBack.{found, slot_element, reading_is_state}
-use Rattle.law_reports.specs.CaseLists.{old_state, new_state}
 use Rattle.smv_problem.specs.declared.problem.Problem.{Problem}
 use Rattle.smv_problem.specs.Written.{written}
 use Rattle.smv_problem.specs.WellFormed.{IsFit, IsWellFormed}
@@ -54,21 +53,21 @@ module _ (c : PosedCase) (well : IsWellFormed c) where
       ap (λ (o : Option Family). is_among (places_of_family c.problem.world c.problem.kept o) (reading c s family ps)) f.1
       ∙ among (places_in c.problem.world f.0.value) (reading c s family ps) ((reading_is_state c well.is_case s).is_somewhere family f.0 f.1 ps k)
 
-  have_values : (next : Bool) → HaveValues c.problem (state_at c next)
-  have_values next a family ps k = value_among _ family ps k
+  have_values : (order : List ℕ) (next : Bool) → HaveValues c.problem (state_at c order next)
+  have_values order next a family ps k = value_among _ family ps k
 
   -- ---- reading by cells
 
-  module _ (d : Diagram) (p : Problem) where
-    pub read_first : (cells : List (Cell Ref)) → IsSeen table d p cells (view_at c false) → AreRead table d p None cells c.problem None (old_state c)
+  module _ (order : List ℕ) (d : Diagram) (p : Problem) where
+    pub read_first : (cells : List (Cell Ref)) → IsSeen table d p cells (view_at c order false) → AreRead table d p None cells c.problem None (state_at c order false)
     unfolding view_of
-    read_first cells seen = record { now = seen; values = have_values false; before = tt }
+    read_first cells seen = record { now = seen; values = have_values order false; before = tt }
 
-    pub read_step : (old cells : List (Cell Ref)) → IsSeen table d p old (view_at c false) → IsSeen table d p cells (view_at c true) → AreRead table d p (Some old) cells c.problem (Some (old_state c)) (new_state c)
+    pub read_step : (old cells : List (Cell Ref)) → IsSeen table d p old (view_at c order false) → IsSeen table d p cells (view_at c order true) → AreRead table d p (Some old) cells c.problem (Some (state_at c order false)) (state_at c order true)
     unfolding view_of
-    read_step old cells before now = record { now = now; values = have_values true; before = (before, have_values false) }
+    read_step old cells before now = record { now = now; values = have_values order true; before = (before, have_values order false) }
 
-    pub seen_state : (next : Bool) (cells : List (Cell Ref)) → IsSeen table d p cells (view_at c next) → IsSeen table d p cells (view_of c.problem (state_at c next))
+    pub seen_state : (next : Bool) (cells : List (Cell Ref)) → IsSeen table d p cells (view_at c order next) → IsSeen table d p cells (view_of c.problem (state_at c order next))
     unfolding view_of
     seen_state next cells seen = seen
 

@@ -5,7 +5,7 @@ use Rattle.law_obligations.specs.Sets.{Has}
 use Rattle.law_obligations.specs.Places.{AbsOutcome}
 use Rattle.law_obligations.specs.May.{AbsState}
 use Rattle.law_obligations.specs.Cones.{AbsElement}
-use Rattle.law_obligations.specs.Codes.{value_of_code}
+use Rattle.law_obligations.specs.Codes.{code_from, value_of_code}
 use Rattle.law_obligations.specs.Readings.{PosedCase, bits_of, values_of, reading}
 use Rattle.smv_spots.specs.declared.spots.Spot.{Spot}
 use Rattle.smv_spots.specs.Spots.{place_in}
@@ -13,19 +13,20 @@ use Rattle.smv_problem.specs.declared.problem.Problem.{Problem}
 use Rattle.smv_readings.specs.StateBits.{count_for}
 use Rattle.bdd_store.specs.declared.Ref.{Ref}
 use Rattle.bdd_store.specs.Diagram.{Diagram, table}
-use Rattle.bdd_codes.specs.Codes.{bits_at, code_at}
+use Rattle.bdd_codes.specs.Codes.{bits_at}
+use Rattle.law_arrangements.specs.Arrangements.{spread}
 use Rattle.smv_conditions.specs.declared.offers.Offer.{Offer}
 use Rattle.smv_conditions.specs.Offers.{any_offer}
 use Rattle.smv_cells.specs.declared.cells.Cell.{Cell}
 use Rattle.smv_cells.specs.Seen.{View}
 
--- the state that the current bits of an assignment are read as, or that of the next bits
-abbrev pub state_at : PosedCase → Bool → (ℕ → Bool) → AbsState
-state_at c next a = reading c (bits_at next a)
+-- the state that the current bits of an assignment are read as, or that of the next bits, where the bits of a case stand in an order
+abbrev pub state_at : PosedCase → List ℕ → Bool → (ℕ → Bool) → AbsState
+state_at c order next a = reading c (spread order (bits_at next a))
 
 -- a case in these states
-abbrev pub view_at : PosedCase → Bool → View
-view_at c next = record { world = c.problem.world; kept = c.problem.kept; state = state_at c next }
+abbrev pub view_at : PosedCase → List ℕ → Bool → View
+view_at c order next = record { world = c.problem.world; kept = c.problem.kept; state = state_at c order next }
 
 -- values, each under its condition
 abbrev pub paired : List Spot → List Ref → List (Offer Ref)
@@ -40,12 +41,12 @@ HaveValues p elements = (x : Element) → Has elements x → 1 ≤ count_for p.l
 abbrev pub AreAmong : List AbsElement → List AbsElement → Type 0
 AreAmong all xs = (x : AbsElement) → Has xs x → Has all x
 
-module _ (c : PosedCase) (d : Diagram) (next : Bool) where
+module _ (c : PosedCase) (order : List ℕ) (d : Diagram) (next : Bool) where
   -- the cell of an element, whose value is that of its code from this bit on
   pub record IsCoded (bit : ℕ) (x : AbsElement) (cell : Cell Ref) : Type 0 where
     pub family : cell.family ≡ x.family
     pub indexes : map (place_in c.problem.world.classes) cell.indexes ≡ x.indexes
-    pub values : (a : ℕ → Bool) (p : AbsOutcome → Bool) → any_offer c.problem.world.classes table d a p cell.values ≡ p (Some (value_of_code (values_of c.problem.world x) (code_at next bit (bits_of c.problem.world x) a)))
+    pub values : (a : ℕ → Bool) (p : AbsOutcome → Bool) → any_offer c.problem.world.classes table d a p cell.values ≡ p (Some (value_of_code (values_of c.problem.world x) (code_from (spread order (bits_at next a)) bit (bits_of c.problem.world x))))
 
   -- those of some elements, one behind the other
   abbrev pub AreCoded : ℕ → List AbsElement → List (Cell Ref) → Type 0

@@ -1,27 +1,28 @@
 -- The functions of a case at time 0 and in a step, and the cells that they are made of.
-use Rattle.std.specs.Prelude.{◌≡◌, Some, None, Bool, true, false}
+use Rattle.std.specs.Prelude.{◌≡◌, ℕ, List, Some, None, Bool, true, false}
 use Rattle.bdd_store.specs.Diagram.{Diagram, IsLive, table}
 use Rattle.bdd_ops.specs.Functions.{Function}
 use Rattle.law_obligations.specs.Obligations.{Demanded, defined, holds, obligation}
 use Rattle.law_obligations.specs.Readings.{PosedCase}
-use Rattle.law_reports.specs.CaseLists.{old_state, new_state, met_first, met_step}
+use Rattle.law_arrangements.specs.Orders.{arranged}
+use Rattle.law_arrangements.specs.ArrangedLists.{met_first, met_step}
 use Rattle.smv_problem.specs.declared.problem.Problem.{Problem}
 use Rattle.smv_cells.specs.Cells.{AreCellsMade}
 use Rattle.smv_cells.specs.Seen.{IsSeen}
 use Rattle.smv_outcomes.specs.Remembered.{AreKnown}
-use Rattle.smv_encode.specs.Coded.{view_at}
+use Rattle.smv_encode.specs.Coded.{state_at, view_at}
 use Rattle.smv_encode.specs.declared.cells.Cells.{Cells}
 use Rattle.smv_encode.specs.declared.cells.CaseKnown.{CaseKnown}
 
--- a demand is met: at time 0, or in a step
-abbrev pub met_at : PosedCase → Bool → Demanded → Function
-met_at c false demand = met_first c demand
-met_at c true demand = met_step c demand
+-- a demand is met, over an order of the bits: at time 0, or in a step
+abbrev pub met_at : PosedCase → List ℕ → Bool → Demanded → Function
+met_at c order false demand = met_first c (arranged order) demand
+met_at c order true demand = met_step c (arranged order) demand
 
 -- the target is broken, and each guard may hold
-abbrev pub broken_at : PosedCase → Bool → Function
-broken_at c false a = (obligation c.problem).broken None (old_state c a)
-broken_at c true a = (obligation c.problem).broken (Some (old_state c a)) (new_state c a)
+abbrev pub broken_at : PosedCase → List ℕ → Bool → Function
+broken_at c order false a = (obligation c.problem).broken None (state_at c order false a)
+broken_at c order true a = (obligation c.problem).broken (Some (state_at c order false a)) (state_at c order true a)
 
 -- the element of a definition is kept; of a claim nothing is asked
 abbrev pub IsKept : PosedCase → Demanded → Type 0
@@ -34,9 +35,9 @@ pub record AreLiveCells (d : Diagram) (cells : Cells) : Type 0 where
   pub next : AreCellsMade (IsLive d) cells.next.items
 
 -- the cells of a case in the states of the current and of the next bits
-pub record AreCellsOf (c : PosedCase) (d : Diagram) (p : Problem) (cells : Cells) : Type 0 where
-  pub current : IsSeen table d p cells.current.items (view_at c false)
-  pub next : IsSeen table d p cells.next.items (view_at c true)
+pub record AreCellsOf (c : PosedCase) (order : List ℕ) (d : Diagram) (p : Problem) (cells : Cells) : Type 0 where
+  pub current : IsSeen table d p cells.current.items (view_at c order false)
+  pub next : IsSeen table d p cells.next.items (view_at c order true)
 
 -- what is known of expressions is right for both cells
 pub record AreKnownOfCase (d : Diagram) (p : Problem) (cells : Cells) (known : CaseKnown) : Type 0 where

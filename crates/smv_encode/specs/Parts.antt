@@ -1,5 +1,5 @@
 -- What is added to a list of functions.
-use Rattle.std.specs.Prelude.{◌≡◌, List, ◌++◌, map, Bool, true, false, not}
+use Rattle.std.specs.Prelude.{◌≡◌, ℕ, List, ◌++◌, map, Bool, true, false, not}
 use Rattle.bdd_store.specs.declared.Ref.{Ref}
 use Rattle.bdd_store.specs.Diagram.{Diagram, table}
 use Rattle.bdd_ops.specs.Functions.{Function}
@@ -8,7 +8,9 @@ use Rattle.law_obligations.specs.Sets.{Has}
 use Rattle.law_obligations.specs.Obligations.{Demanded}
 use Rattle.law_obligations.specs.Cones.{AbsElement}
 use Rattle.law_obligations.specs.Readings.{PosedCase, Slot}
-use Rattle.law_reports.specs.CaseLists.{moves, element_first, element_step}
+use Rattle.law_reports.specs.CaseLists.{moves}
+use Rattle.law_arrangements.specs.Orders.{arranged}
+use Rattle.law_arrangements.specs.ArrangedLists.{element_first, element_step}
 use Rattle.smv_problem.specs.declared.problem.Demand.{Demand}
 use Rattle.smv_problem.specs.Written.{written_demand, written_element}
 use Rattle.smv_problem.specs.WellFormed.{IsFit}
@@ -32,9 +34,9 @@ abbrev pub AddsFunctions : Diagram → Diagram → List Ref → List Ref → Lis
 AddsFunctions d e old new more = map (table e) new ≡ map (table d) old ++ more
 
 -- the function of an element: at time 0, or in a step
-abbrev pub element_at : PosedCase → Bool → Slot → Function
-element_at c false slot = element_first c slot
-element_at c true slot = element_step c slot
+abbrev pub element_at : PosedCase → List ℕ → Bool → Slot → Function
+element_at c order false slot = element_first c (arranged order) slot
+element_at c order true slot = element_step c (arranged order) slot
 
 -- it is an element's turn: always, if some of these demands moves it, or if none does
 abbrev pub is_turn : List Demanded → Turn → Slot → Bool

@@ -1,11 +1,13 @@
 // The cells of both times.
-ghost use Rattle.std.specs.Prelude.{◌≡◌, ◌*◌, [], IfOk};
+ghost use Rattle.std.specs.Prelude.{◌≡◌, ◌≤◌, ℕ, List, [], length, IfOk};
 ghost use Rattle.bdd_store.specs.Diagram.{Keeps};
-ghost use Rattle.law_obligations.specs.Readings.{state_bits};
+ghost use Rattle.bdd_codes.specs.Codes.{AreWithin};
+ghost use Rattle.smv_readings.specs.StateBits.{bits_in};
 ghost use Rattle.smv_problem.specs.WellFormed.{IsProblem, OfCases};
+ghost use Rattle.smv_orders.specs.Places.{ArePlaces};
 ghost use Rattle.smv_encode.specs.Encoded.{AreLiveCells, AreCellsOf};
 
-use crate::cells_at;
+use crate::coded::cells_at;
 use bdd_store::{Ref, Store};
 use smv_cells::Cell;
 use smv_conditions::chances::Chances;
@@ -38,15 +40,21 @@ pub(crate) fn nothing_known_of_case<'a>(alloc: Global) -> CaseKnown<'a>
     }
 }
 
-/// The cells of a problem.
-pub fn cells_of(alloc: Global, problem: &Problem, store: &mut Store) -> Result<Cells, AllocError>
+/// The cells of a problem, by the places of all bits.
+pub(crate) fn cells_of(
+    alloc: Global,
+    problem: &Problem,
+    store: &mut Store,
+    places: &[u16],
+) -> Result<Cells, AllocError>
     requires well_formed { IsProblem problem.now }
-    requires vars { OfCases problem.now (λ c. store.old.vars ≡ 2 * state_bits c) }
+    requires room { bits_in problem.now ≤ length places.now }
+    requires places { AreWithin store.old places.now }
     ensures keeps { Keeps store.old store.new }
     ensures live { IfOk result (λ cells. AreLiveCells store.new cells) }
-    ensures cells { IfOk result (λ cells. OfCases problem.entry.now (λ c. AreCellsOf c store.new problem.entry.now cells)) }
+    ensures cells { IfOk result (λ cells. OfCases problem.entry.now (λ c. (order : List ℕ) → ArePlaces order 0 places.now → AreCellsOf c order store.new problem.entry.now cells)) }
 {
-    let current = cells_at(alloc, problem, store, false)?;
-    let next = cells_at(alloc, problem, store, true)?;
+    let current = cells_at(alloc, problem, store, false, places)?;
+    let next = cells_at(alloc, problem, store, true, places)?;
     Ok(Cells { current, next })
 }

@@ -1,11 +1,15 @@
 // The functions of demands and of elements, put behind a list.
-ghost use Rattle.std.specs.Prelude.{◌≡◌, ◌+◌, ◌*◌, ◌≤◌, ◌&&◌, ℕ, List, [], ◌∷◌, map, filter, flat_map, if◌then◌else◌, Bool, true, IfOk, OnOk};
+ghost use Rattle.std.specs.Prelude.{◌≡◌, ◌≤◌, ◌&&◌, ℕ, length, List, [], ◌∷◌, map, filter, flat_map, if◌then◌else◌, Bool, true, IfOk, OnOk};
 ghost use Rattle.std.specs.List.{list_all};
 ghost use Rattle.bdd_store.specs.Diagram.{IsLive, AreLive, Keeps, table};
 ghost use Rattle.law_obligations.specs.Obligations.{Demanded};
 ghost use Rattle.law_obligations.specs.Cones.{AbsElement};
 ghost use Rattle.law_obligations.specs.Readings.{Slot, slots_from};
-ghost use Rattle.law_reports.specs.CaseLists.{is_claim as is_claim_of, those_of, met_step};
+ghost use Rattle.law_reports.specs.CaseLists.{is_claim as is_claim_of, those_of};
+ghost use Rattle.law_arrangements.specs.Orders.{arranged};
+ghost use Rattle.law_arrangements.specs.ArrangedLists.{met_step};
+ghost use Rattle.bdd_codes.specs.Codes.{AreWithin};
+ghost use Rattle.smv_orders.specs.Places.{ArePlaces};
 ghost use Rattle.smv_problem.specs.WellFormed.{OfCases};
 ghost use Rattle.smv_readings.specs.StateBits.{bits_of_family, bits_of_elements};
 ghost use Rattle.smv_encode.specs.Encoded.{met_at as met_function, AreLiveCells, AreCellsOf, AreKnownOfCase};
@@ -13,8 +17,8 @@ ghost use Rattle.smv_encode.specs.Parts.{AreDemands, AreElements, AddsFunctions,
 
 use crate::cells::{CaseKnown, Cells};
 use crate::chosen::{defines, is_claim, moves};
+use crate::coded::{value_at, width};
 use crate::times::met_at;
-use crate::{value_at, width};
 use bdd_ops::and;
 use bdd_store::{Ref, Store};
 use smv_core::flat::Element;
@@ -46,7 +50,7 @@ fn add_met<'a>(
     ensures keeps { Keeps store.old store.new }
     ensures out { OnOk result (AreLive store.new out.new.items) }
     ensures known { OnOk result (AreKnownOfCase store.new problem.entry.now cells.now known.new) }
-    ensures adds { OnOk result (OfCases problem.entry.now (λ c. AreCellsOf c store.old problem.entry.now cells.now → (d : Demanded) → AreDemands c (d ∷ []) (demand.now ∷ []) → AddsFunctions store.old store.new out.old.items out.new.items (met_function c step d ∷ []))) }
+    ensures adds { OnOk result (OfCases problem.entry.now (λ c. (order : List ℕ) → AreCellsOf c order store.old problem.entry.now cells.now → (d : Demanded) → AreDemands c (d ∷ []) (demand.now ∷ []) → AddsFunctions store.old store.new out.old.items out.new.items (met_function c order step d ∷ []))) }
 {
     let r = met_at(alloc, problem, cells, known, step, demand, store)?;
     out.push(r)?;
@@ -70,7 +74,7 @@ pub fn add_all<'a>(
     ensures keeps { Keeps store.old store.new }
     ensures out { OnOk result (AreLive store.new out.new.items) }
     ensures known { OnOk result (AreKnownOfCase store.new problem.entry.now cells.now known.new) }
-    ensures adds { OnOk result (OfCases problem.entry.now (λ c. AreCellsOf c store.old problem.entry.now cells.now → (ds : List Demanded) → AreDemands c ds demands.now → AddsFunctions store.old store.new out.old.items out.new.items (map (met_function c step) ds))) }
+    ensures adds { OnOk result (OfCases problem.entry.now (λ c. (order : List ℕ) → AreCellsOf c order store.old problem.entry.now cells.now → (ds : List Demanded) → AreDemands c ds demands.now → AddsFunctions store.old store.new out.old.items out.new.items (map (met_function c order step) ds))) }
 {
     for demand in demands {
         add_met(alloc, problem, cells, known, step, demand, store, out)?;
@@ -96,7 +100,7 @@ fn add_met_if<'a>(
     ensures keeps { Keeps store.old store.new }
     ensures out { OnOk result (AreLive store.new out.new.items) }
     ensures known { OnOk result (AreKnownOfCase store.new problem.entry.now cells.now known.new) }
-    ensures adds { OnOk result (OfCases problem.entry.now (λ c. AreCellsOf c store.old problem.entry.now cells.now → (d : Demanded) → AreDemands c (d ∷ []) (demand.now ∷ []) → AddsFunctions store.old store.new out.old.items out.new.items (if taken then met_function c step d ∷ [] else []))) }
+    ensures adds { OnOk result (OfCases problem.entry.now (λ c. (order : List ℕ) → AreCellsOf c order store.old problem.entry.now cells.now → (d : Demanded) → AreDemands c (d ∷ []) (demand.now ∷ []) → AddsFunctions store.old store.new out.old.items out.new.items (if taken then met_function c order step d ∷ [] else []))) }
 {
     if taken {
         add_met(alloc, problem, cells, known, step, demand, store, out)?;
@@ -122,7 +126,7 @@ pub fn add_claims<'a>(
     ensures keeps { Keeps store.old store.new }
     ensures out { OnOk result (AreLive store.new out.new.items) }
     ensures known { OnOk result (AreKnownOfCase store.new problem.entry.now cells.now known.new) }
-    ensures adds { OnOk result (OfCases problem.entry.now (λ c. AreCellsOf c store.old problem.entry.now cells.now → (ds : List Demanded) → AreDemands c ds demands.now → AddsFunctions store.old store.new out.old.items out.new.items (map (met_function c step) (filter is_claim_of ds)))) }
+    ensures adds { OnOk result (OfCases problem.entry.now (λ c. (order : List ℕ) → AreCellsOf c order store.old problem.entry.now cells.now → (ds : List Demanded) → AreDemands c ds demands.now → AddsFunctions store.old store.new out.old.items out.new.items (map (met_function c order step) (filter is_claim_of ds)))) }
 {
     for demand in demands {
         let taken = is_claim(demand);
@@ -151,7 +155,7 @@ fn add_own<'a>(
     ensures keeps { Keeps store.old store.new }
     ensures out { OnOk result (AreLive store.new out.new.items) }
     ensures known { OnOk result (AreKnownOfCase store.new problem.entry.now cells.now known.new) }
-    ensures adds { OnOk result (OfCases problem.entry.now (λ c. AreCellsOf c store.old problem.entry.now cells.now → (x : AbsElement) → AreElements c (x ∷ []) (element.now ∷ []) → (ds : List Demanded) → AreDemands c ds demands.now → AddsFunctions store.old store.new out.old.items out.new.items (map (met_function c step) (those_of ds x)))) }
+    ensures adds { OnOk result (OfCases problem.entry.now (λ c. (order : List ℕ) → AreCellsOf c order store.old problem.entry.now cells.now → (x : AbsElement) → AreElements c (x ∷ []) (element.now ∷ []) → (ds : List Demanded) → AreDemands c ds demands.now → AddsFunctions store.old store.new out.old.items out.new.items (map (met_function c order step) (those_of ds x)))) }
 {
     for demand in demands {
         let taken = defines(element, demand);
@@ -180,7 +184,7 @@ fn met_too<'a>(
     ensures keeps { Keeps store.old store.new }
     ensures live { IfOk result (λ r. IsLive store.new r) }
     ensures known { IfOk result (λ r. AreKnownOfCase store.new problem.entry.now cells.now known.new) }
-    ensures means { IfOk result (λ r. OfCases problem.entry.now (λ c. AreCellsOf c store.old problem.entry.now cells.now → (d : Demanded) → AreDemands c (d ∷ []) (demand.now ∷ []) → (a : ℕ → Bool) → table store.new r a ≡ (table store.old others a && (if taken then met_function c step d a else true)))) }
+    ensures means { IfOk result (λ r. OfCases problem.entry.now (λ c. (order : List ℕ) → AreCellsOf c order store.old problem.entry.now cells.now → (d : Demanded) → AreDemands c (d ∷ []) (demand.now ∷ []) → (a : ℕ → Bool) → table store.new r a ≡ (table store.old others a && (if taken then met_function c order step d a else true)))) }
 {
     if taken {
         let met = met_at(alloc, problem, cells, known, step, demand, store)?;
@@ -206,7 +210,7 @@ fn own_met<'a>(
     ensures keeps { Keeps store.old store.new }
     ensures live { IfOk result (λ r. IsLive store.new r) }
     ensures known { IfOk result (λ r. AreKnownOfCase store.new problem.entry.now cells.now known.new) }
-    ensures means { IfOk result (λ r. OfCases problem.entry.now (λ c. AreCellsOf c store.old problem.entry.now cells.now → (x : AbsElement) → AreElements c (x ∷ []) (element.now ∷ []) → (ds : List Demanded) → AreDemands c ds demands.now → (a : ℕ → Bool) → table store.new r a ≡ list_all (λ d. met_function c step d a) (those_of ds x))) }
+    ensures means { IfOk result (λ r. OfCases problem.entry.now (λ c. (order : List ℕ) → AreCellsOf c order store.old problem.entry.now cells.now → (x : AbsElement) → AreElements c (x ∷ []) (element.now ∷ []) → (ds : List Demanded) → AreDemands c ds demands.now → (a : ℕ → Bool) → table store.new r a ≡ list_all (λ d. met_function c order step d a) (those_of ds x))) }
 {
     let mut r = store.constant(true);
     for demand in demands {
@@ -223,19 +227,20 @@ fn element_at<'a>(
     cells: &Cells,
     known: &mut CaseKnown<'a>,
     step: bool,
-    bit: u32,
+    places: &[u16],
     element: &Element,
     store: &mut Store,
 ) -> Result<Ref, AllocError>
     requires cells { AreLiveCells store.old cells.now }
     requires known { AreKnownOfCase store.old problem.now cells.now known.old }
-    requires room { 2 * (bit + bits_of_family problem.now.families problem.now.lists problem.now.types element.now.family) ≤ store.old.vars }
+    requires width { length places.now ≡ bits_of_family problem.now.families problem.now.lists problem.now.types element.now.family }
+    requires places { AreWithin store.old places.now }
     ensures keeps { Keeps store.old store.new }
     ensures live { IfOk result (λ r. IsLive store.new r) }
     ensures known { IfOk result (λ r. AreKnownOfCase store.new problem.entry.now cells.now known.new) }
-    ensures means { IfOk result (λ r. OfCases problem.entry.now (λ c. AreCellsOf c store.old problem.entry.now cells.now → (x : AbsElement) → AreElements c (x ∷ []) (element.now ∷ []) → table store.new r ≡ element_function c step (record { element = x; bit = bit }))) }
+    ensures means { IfOk result (λ r. OfCases problem.entry.now (λ c. (order : List ℕ) → AreCellsOf c order store.old problem.entry.now cells.now → (x : AbsElement) → AreElements c (x ∷ []) (element.now ∷ []) → (bit : ℕ) → ArePlaces order bit places.now → table store.new r ≡ element_function c order step (record { element = x; bit = bit }))) }
 {
-    let value = value_at(alloc, problem, store, step, bit, element.family)?;
+    let value = value_at(alloc, problem, store, step, places, element.family)?;
     let demands = problem.now.as_slice();
     let met = own_met(alloc, problem, cells, known, step, element, demands, store)?;
     let r = and(alloc, store, value, met)?;
@@ -273,29 +278,30 @@ fn add_element_if<'a>(
     known: &mut CaseKnown<'a>,
     step: bool,
     taken: bool,
-    bit: u32,
+    places: &[u16],
     element: &Element,
     store: &mut Store,
     out: &mut Vec<Ref>,
 ) -> Result<(), AllocError>
     requires cells { AreLiveCells store.old cells.now }
     requires known { AreKnownOfCase store.old problem.now cells.now known.old }
-    requires room { 2 * (bit + bits_of_family problem.now.families problem.now.lists problem.now.types element.now.family) ≤ store.old.vars }
+    requires width { length places.now ≡ bits_of_family problem.now.families problem.now.lists problem.now.types element.now.family }
+    requires places { AreWithin store.old places.now }
     requires out { AreLive store.old out.old.items }
     ensures keeps { Keeps store.old store.new }
     ensures out { OnOk result (AreLive store.new out.new.items) }
     ensures known { OnOk result (AreKnownOfCase store.new problem.entry.now cells.now known.new) }
-    ensures adds { OnOk result (OfCases problem.entry.now (λ c. AreCellsOf c store.old problem.entry.now cells.now → (x : AbsElement) → AreElements c (x ∷ []) (element.now ∷ []) → AddsFunctions store.old store.new out.old.items out.new.items (if taken then element_function c step (record { element = x; bit = bit }) ∷ [] else []))) }
+    ensures adds { OnOk result (OfCases problem.entry.now (λ c. (order : List ℕ) → AreCellsOf c order store.old problem.entry.now cells.now → (x : AbsElement) → AreElements c (x ∷ []) (element.now ∷ []) → (bit : ℕ) → ArePlaces order bit places.now → AddsFunctions store.old store.new out.old.items out.new.items (if taken then element_function c order step (record { element = x; bit = bit }) ∷ [] else []))) }
 {
     if taken {
-        let r = element_at(alloc, problem, cells, known, step, bit, element, store)?;
+        let r = element_at(alloc, problem, cells, known, step, places, element, store)?;
         out.push(r)?;
         return Ok(());
     }
     Ok(())
 }
 
-/// The functions of the elements whose turn it is, by the demands of now. The first has this bit.
+/// The functions of the elements whose turn it is, by the demands of now. The bits of the elements have these places.
 pub(crate) fn add_elements<'a>(
     alloc: Global,
     problem: &'a Problem,
@@ -303,29 +309,30 @@ pub(crate) fn add_elements<'a>(
     known: &mut CaseKnown<'a>,
     step: bool,
     turn: Turn,
-    bit: u32,
+    places: &[u16],
     elements: &[Element],
     store: &mut Store,
     out: &mut Vec<Ref>,
 ) -> Result<(), AllocError>
     requires cells { AreLiveCells store.old cells.now }
     requires known { AreKnownOfCase store.old problem.now cells.now known.old }
-    requires room { 2 * (bit + bits_of_elements problem.now.families problem.now.lists problem.now.types elements.now) ≤ store.old.vars }
+    requires room { bits_of_elements problem.now.families problem.now.lists problem.now.types elements.now ≤ length places.now }
+    requires places { AreWithin store.old places.now }
     requires out { AreLive store.old out.old.items }
     ensures keeps { Keeps store.old store.new }
     ensures out { OnOk result (AreLive store.new out.new.items) }
     ensures known { OnOk result (AreKnownOfCase store.new problem.entry.now cells.now known.new) }
-    ensures adds { OnOk result (OfCases problem.entry.now (λ c. AreCellsOf c store.old problem.entry.now cells.now → (xs : List AbsElement) → AreElements c xs elements.now → AddsFunctions store.old store.new out.old.items out.new.items (map (element_function c step) (filter (is_turn c.problem.now turn) (slots_from c.problem.world bit xs))))) }
+    ensures adds { OnOk result (OfCases problem.entry.now (λ c. (order : List ℕ) → AreCellsOf c order store.old problem.entry.now cells.now → (xs : List AbsElement) → AreElements c xs elements.now → (bit : ℕ) → ArePlaces order bit places.now → AddsFunctions store.old store.new out.old.items out.new.items (map (element_function c order step) (filter (is_turn c.problem.now turn) (slots_from c.problem.world bit xs))))) }
 {
     let _ = store.vars();
     let Some((element, others)) = elements.split_first() else {
         return Ok(());
     };
     let taken = is_its_turn(alloc, problem, problem.now.as_slice(), turn, element)?;
+    let (own, behind) = places.split_at(width(problem, element.family) as usize);
     add_element_if(
-        alloc, problem, cells, known, step, taken, bit, element, store, out,
+        alloc, problem, cells, known, step, taken, own, element, store, out,
     )?;
-    let behind = bit + width(problem, element.family);
     add_elements(
         alloc, problem, cells, known, step, turn, behind, others, store, out,
     )?;
@@ -349,7 +356,7 @@ fn add_own_if<'a>(
     ensures keeps { Keeps store.old store.new }
     ensures out { OnOk result (AreLive store.new out.new.items) }
     ensures known { OnOk result (AreKnownOfCase store.new problem.entry.now cells.now known.new) }
-    ensures adds { OnOk result (OfCases problem.entry.now (λ c. AreCellsOf c store.old problem.entry.now cells.now → (x : AbsElement) → AreElements c (x ∷ []) (element.now ∷ []) → AddsFunctions store.old store.new out.old.items out.new.items (map (met_step c) (if taken then those_of c.problem.before x else [])))) }
+    ensures adds { OnOk result (OfCases problem.entry.now (λ c. (order : List ℕ) → AreCellsOf c order store.old problem.entry.now cells.now → (x : AbsElement) → AreElements c (x ∷ []) (element.now ∷ []) → AddsFunctions store.old store.new out.old.items out.new.items (map (met_step c (arranged order)) (if taken then those_of c.problem.before x else [])))) }
 {
     if taken {
         let demands = problem.before.as_slice();
@@ -378,7 +385,7 @@ pub(crate) fn add_before<'a>(
     ensures keeps { Keeps store.old store.new }
     ensures out { OnOk result (AreLive store.new out.new.items) }
     ensures known { OnOk result (AreKnownOfCase store.new problem.entry.now cells.now known.new) }
-    ensures adds { OnOk result (OfCases problem.entry.now (λ c. AreCellsOf c store.old problem.entry.now cells.now → (xs : List AbsElement) → AreElements c xs elements.now → (bit : ℕ) → AddsFunctions store.old store.new out.old.items out.new.items (map (met_step c) (flat_map (λ (slot : Slot). those_of c.problem.before slot.element) (filter (is_turn c.problem.before turn) (slots_from c.problem.world bit xs)))))) }
+    ensures adds { OnOk result (OfCases problem.entry.now (λ c. (order : List ℕ) → AreCellsOf c order store.old problem.entry.now cells.now → (xs : List AbsElement) → AreElements c xs elements.now → (bit : ℕ) → AddsFunctions store.old store.new out.old.items out.new.items (map (met_step c (arranged order)) (flat_map (λ (slot : Slot). those_of c.problem.before slot.element) (filter (is_turn c.problem.before turn) (slots_from c.problem.world bit xs)))))) }
 {
     let Some((element, others)) = elements.split_first() else {
         return Ok(());

@@ -9,13 +9,9 @@
 pub mod cells;
 mod chosen;
 mod coded;
-pub mod demands;
 mod elements;
 pub mod kept_stores;
 mod lists;
 pub mod times;
 
-pub use cells::{CaseKnown, Cells, cells_of};
-pub use coded::{cells_at, value_at, width};
-pub use demands::{broken_first, broken_step, first, step};
-pub use lists::relations;
+pub use lists::{relations, relations_over};

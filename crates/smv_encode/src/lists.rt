@@ -1,8 +1,13 @@
 // The six lists.
-ghost use Rattle.std.specs.Prelude.{◌≡◌, ◌*◌, ◌++◌, map, false, true, IfOk};
+ghost use Rattle.std.specs.Prelude.{◌≡◌, ◌*◌, ◌≤◌, ◌++◌, ℕ, List, length, map, false, true, IfOk};
 ghost use Rattle.bdd_store.specs.Diagram.{AreLive, Keeps, table};
 ghost use Rattle.law_obligations.specs.Readings.{slots, state_bits as bits_of_case};
-ghost use Rattle.law_reports.specs.CaseLists.{element_first, element_step, met_first, met_step, moving_first, claims, before_in_step, IsListsOf};
+ghost use Rattle.law_reports.specs.CaseLists.{moving_first, claims, before_in_step, IsListsOf};
+ghost use Rattle.law_arrangements.specs.Orders.{arranged, IsOrder};
+ghost use Rattle.law_arrangements.specs.ArrangedLists.{element_first, element_step, met_first, met_step, lists_over};
+ghost use Rattle.bdd_codes.specs.Codes.{AreWithin};
+ghost use Rattle.smv_readings.specs.StateBits.{bits_in};
+ghost use Rattle.smv_orders.specs.Places.{ArePlaces};
 ghost use Rattle.smv_rings.specs.Lists.{IsRel, lists_of};
 ghost use Rattle.smv_problem.specs.WellFormed.{IsProblem, OfCases};
 ghost use Rattle.smv_encode.specs.Encoded.{AreLiveCells, AreCellsOf, AreKnownOfCase};
@@ -11,6 +16,7 @@ use crate::cells::{CaseKnown, Cells, cells_of, nothing_known_of_case};
 use crate::elements::{Turn, add_all, add_before, add_claims, add_elements};
 use crate::times::{broken_first_by, broken_step_by};
 use bdd_store::{Ref, Store};
+use smv_orders::{declared_order, places_in};
 use smv_problem::Problem;
 use smv_readings::state_bits;
 use smv_rings::Rel;
@@ -20,18 +26,19 @@ use std::alloc::{AllocError, Global};
 fn now_first<'a>(
     alloc: Global,
     problem: &'a Problem,
+    places: &[u16],
     cells: &Cells,
     known: &mut CaseKnown<'a>,
     store: &mut Store,
 ) -> Result<Vec<Ref>, AllocError>
-    requires well_formed { IsProblem problem.now }
-    requires vars { OfCases problem.now (λ c. store.old.vars ≡ 2 * bits_of_case c) }
+    requires room { bits_in problem.now ≤ length places.now }
+    requires places { AreWithin store.old places.now }
     requires cells { AreLiveCells store.old cells.now }
     requires known { AreKnownOfCase store.old problem.now cells.now known.old }
     ensures keeps { Keeps store.old store.new }
     ensures live { IfOk result (λ refs. AreLive store.new refs.items) }
     ensures known { IfOk result (λ refs. AreKnownOfCase store.new problem.entry.now cells.now known.new) }
-    ensures list { IfOk result (λ refs. OfCases problem.entry.now (λ c. AreCellsOf c store.old problem.entry.now cells.now → map (table store.new) refs.items ≡ map (element_first c) (slots c) ++ map (met_first c) (claims c c.problem.now))) }
+    ensures list { IfOk result (λ refs. OfCases problem.entry.now (λ c. (order : List ℕ) → AreCellsOf c order store.old problem.entry.now cells.now → ArePlaces order 0 places.now → map (table store.new) refs.items ≡ map (element_first c (arranged order)) (slots c) ++ map (met_first c (arranged order)) (claims c c.problem.now))) }
 {
     let elements = problem.elements.as_slice();
     let demands = problem.now.as_slice();
@@ -43,7 +50,7 @@ fn now_first<'a>(
         known,
         false,
         Turn::All,
-        0,
+        places,
         elements,
         store,
         &mut refs,
@@ -67,7 +74,7 @@ fn before_first<'a>(
     ensures keeps { Keeps store.old store.new }
     ensures live { IfOk result (λ refs. AreLive store.new refs.items) }
     ensures known { IfOk result (λ refs. AreKnownOfCase store.new problem.entry.now cells.now known.new) }
-    ensures list { IfOk result (λ refs. OfCases problem.entry.now (λ c. AreCellsOf c store.old problem.entry.now cells.now → map (table store.new) refs.items ≡ map (met_first c) c.problem.before)) }
+    ensures list { IfOk result (λ refs. OfCases problem.entry.now (λ c. (order : List ℕ) → AreCellsOf c order store.old problem.entry.now cells.now → map (table store.new) refs.items ≡ map (met_first c (arranged order)) c.problem.before)) }
 {
     let demands = problem.before.as_slice();
     let mut refs = Vec::new(alloc);
@@ -81,18 +88,19 @@ fn before_first<'a>(
 fn now_step<'a>(
     alloc: Global,
     problem: &'a Problem,
+    places: &[u16],
     cells: &Cells,
     known: &mut CaseKnown<'a>,
     store: &mut Store,
 ) -> Result<Vec<Ref>, AllocError>
-    requires well_formed { IsProblem problem.now }
-    requires vars { OfCases problem.now (λ c. store.old.vars ≡ 2 * bits_of_case c) }
+    requires room { bits_in problem.now ≤ length places.now }
+    requires places { AreWithin store.old places.now }
     requires cells { AreLiveCells store.old cells.now }
     requires known { AreKnownOfCase store.old problem.now cells.now known.old }
     ensures keeps { Keeps store.old store.new }
     ensures live { IfOk result (λ refs. AreLive store.new refs.items) }
     ensures known { IfOk result (λ refs. AreKnownOfCase store.new problem.entry.now cells.now known.new) }
-    ensures list { IfOk result (λ refs. OfCases problem.entry.now (λ c. AreCellsOf c store.old problem.entry.now cells.now → map (table store.new) refs.items ≡ map (element_step c) (moving_first c.problem.now (slots c)) ++ map (met_step c) (claims c c.problem.now))) }
+    ensures list { IfOk result (λ refs. OfCases problem.entry.now (λ c. (order : List ℕ) → AreCellsOf c order store.old problem.entry.now cells.now → ArePlaces order 0 places.now → map (table store.new) refs.items ≡ map (element_step c (arranged order)) (moving_first c.problem.now (slots c)) ++ map (met_step c (arranged order)) (claims c c.problem.now))) }
 {
     let elements = problem.elements.as_slice();
     let demands = problem.now.as_slice();
@@ -104,7 +112,7 @@ fn now_step<'a>(
         known,
         true,
         Turn::Moving,
-        0,
+        places,
         elements,
         store,
         &mut refs,
@@ -116,7 +124,7 @@ fn now_step<'a>(
         known,
         true,
         Turn::Others,
-        0,
+        places,
         elements,
         store,
         &mut refs,
@@ -140,7 +148,7 @@ fn before_step<'a>(
     ensures keeps { Keeps store.old store.new }
     ensures live { IfOk result (λ refs. AreLive store.new refs.items) }
     ensures known { IfOk result (λ refs. AreKnownOfCase store.new problem.entry.now cells.now known.new) }
-    ensures list { IfOk result (λ refs. OfCases problem.entry.now (λ c. AreCellsOf c store.old problem.entry.now cells.now → map (table store.new) refs.items ≡ map (met_step c) (before_in_step c))) }
+    ensures list { IfOk result (λ refs. OfCases problem.entry.now (λ c. (order : List ℕ) → AreCellsOf c order store.old problem.entry.now cells.now → map (table store.new) refs.items ≡ map (met_step c (arranged order)) (before_in_step c))) }
 {
     let elements = problem.elements.as_slice();
     let demands = problem.before.as_slice();
@@ -171,21 +179,28 @@ fn before_step<'a>(
     Ok(refs)
 }
 
-/// The lists of functions of a problem.
-pub fn relations(alloc: Global, problem: &Problem, store: &mut Store) -> Result<Rel, AllocError>
+// The lists of functions of a problem, by the places of all bits.
+fn relations_at(
+    alloc: Global,
+    problem: &Problem,
+    places: &[u16],
+    store: &mut Store,
+) -> Result<Rel, AllocError>
     requires well_formed { IsProblem problem.now }
     requires vars { OfCases problem.now (λ c. store.old.vars ≡ 2 * bits_of_case c) }
-    ensures rel { IfOk result (λ rel. IsRel store.new rel) }
-    ensures lists { IfOk result (λ rel. OfCases problem.entry.now (λ c. IsListsOf c (lists_of store.new rel))) }
+    requires count { OfCases problem.now (λ c. length places.now ≡ bits_of_case c) }
+    requires places { AreWithin store.old places.now }
+    ensures rel { IfOk result (λ rel. (order : List ℕ) → ArePlaces order 0 places.now → length order ≡ length places.now → IsRel store.new rel) }
+    ensures lists { IfOk result (λ rel. OfCases problem.entry.now (λ c. (order : List ℕ) → ArePlaces order 0 places.now → length order ≡ length places.now → lists_of store.new rel ≡ lists_over c (arranged order))) }
     ensures keeps { Keeps store.old store.new }
 {
-    let cells = cells_of(alloc, problem, store)?;
+    let cells = cells_of(alloc, problem, store, places)?;
     let mut known = nothing_known_of_case(alloc);
-    let now_first = now_first(alloc, problem, &cells, &mut known, store)?;
+    let now_first = now_first(alloc, problem, places, &cells, &mut known, store)?;
     let before_first = before_first(alloc, problem, &cells, &mut known, store)?;
     let current = cells.current.as_slice();
     let broken_first = broken_first_by(alloc, problem, current, &mut known.current, store)?;
-    let now_step = now_step(alloc, problem, &cells, &mut known, store)?;
+    let now_step = now_step(alloc, problem, places, &cells, &mut known, store)?;
     let before_step = before_step(alloc, problem, &cells, &mut known, store)?;
     let broken_step = broken_step_by(alloc, problem, &cells, &mut known, store)?;
     let bits = state_bits(problem);
@@ -198,4 +213,36 @@ pub fn relations(alloc: Global, problem: &Problem, store: &mut Store) -> Result<
         broken_step,
         bits,
     })
+}
+
+/// The lists of functions of a problem whose bits stand in this order.
+pub fn relations_over(
+    alloc: Global,
+    problem: &Problem,
+    order: &[u16],
+    store: &mut Store,
+) -> Result<Rel, AllocError>
+    requires well_formed { IsProblem problem.now }
+    requires order { OfCases problem.now (λ c. IsOrder (bits_of_case c) order.now) }
+    requires vars { OfCases problem.now (λ c. store.old.vars ≡ 2 * bits_of_case c) }
+    ensures rel { IfOk result (λ rel. IsRel store.new rel) }
+    ensures lists { IfOk result (λ rel. OfCases problem.entry.now (λ c. lists_of store.new rel ≡ lists_over c (arranged order.now))) }
+    ensures keeps { Keeps store.old store.new }
+{
+    let places = places_in(alloc, order)?;
+    let rel = relations_at(alloc, problem, places.as_slice(), store)?;
+    Ok(rel)
+}
+
+/// The lists of functions of a problem whose bits stand in the order of the declarations.
+pub fn relations(alloc: Global, problem: &Problem, store: &mut Store) -> Result<Rel, AllocError>
+    requires well_formed { IsProblem problem.now }
+    requires vars { OfCases problem.now (λ c. store.old.vars ≡ 2 * bits_of_case c) }
+    ensures rel { IfOk result (λ rel. IsRel store.new rel) }
+    ensures lists { IfOk result (λ rel. OfCases problem.entry.now (λ c. IsListsOf c (lists_of store.new rel))) }
+    ensures keeps { Keeps store.old store.new }
+{
+    let order = declared_order(alloc, problem)?;
+    let rel = relations_over(alloc, problem, order.as_slice(), store)?;
+    Ok(rel)
 }

@@ -3,7 +3,7 @@
 //!
 //! Nothing stands on it. A row of each table becomes a question about a case, and `questions` tells whether its answer
 //! is right. Of the evaluator, `states` spells states and values; `expressions` has what expressions may be, `demands`
-//! what is met, broken and certain, and `cones` the elements of cases. Of the functions, `lists` has the lists of small
+//! what is met, broken and certain, `cones` the elements of cases, and `orders` orders of their bits. Of the functions, `lists` has the lists of small
 //! texts, written out by hand, and `searches` what a search finds under budgets. Of the machine, `machine` has the cones
 //! of its six cases and looks at a thousand assignments of each, `functions` looks at each function beside the
 //! evaluator, and `late` has a path of a machine that takes what it did not wait for.
@@ -23,6 +23,8 @@ mod late;
 mod lists;
 #[cfg(test)]
 mod machine;
+#[cfg(test)]
+mod orders;
 #[cfg(test)]
 mod questions;
 #[cfg(test)]

@@ -8,6 +8,7 @@ use crate::demands::{Asked, is_answered};
 use crate::late::{Counts, is_along};
 use crate::lists::{Lists, are_lists};
 use crate::machine::{are_as_found, is_told};
+use crate::orders::is_near;
 use crate::searches::{Found, is_found};
 use smv_core::Refusal;
 use smv_core::flat::Design;
@@ -31,7 +32,11 @@ pub enum Question {
         elements: &'static str,
         bits: u16,
     },
-    /// The same with the bits of each element, the classes of its parameters, and how many definitions hold up to the time before.
+    /// The order in which its bits stand near those that they meet.
+    Near {
+        bits: &'static str,
+    },
+    /// Its elements with the bits of each, the classes of its parameters, and how many definitions hold up to the time before.
     Told {
         classes: &'static str,
         elements: &'static str,
@@ -100,6 +105,7 @@ fn is_right(
     match question {
         Question::InState { old, new, asked } => is_answered(alloc, problem, old, new, asked),
         Question::Cone { elements, bits } => is_cone(alloc, design, problem, elements, bits),
+        Question::Near { bits } => is_near(alloc, design, problem, bits),
         Question::Told {
             classes,
             elements,

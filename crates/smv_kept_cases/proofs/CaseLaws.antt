@@ -22,6 +22,7 @@ use Rattle.smv_problem.specs.declared.report.Verdict.TheVariants.{True, False, U
 use Rattle.smv_problem.specs.Written.{written}
 use Rattle.smv_problem.specs.WellFormed.{IsProblem, IsWellFormed, OfCases}
 use Rattle.law_reports.specs.CaseLists.{case_lists, IsListsOf}
+use Rattle.smv_bits.specs.declared.Bits.TheVariants.{Declared}
 use Rattle.smv_decide.specs.declared.Decision.{Decision}
 use Rattle.smv_decide.specs.declared.Decision.TheVariants as decided
 use Rattle.smv_decide.specs.Decisions.{IsDecided}
@@ -111,7 +112,7 @@ some_is : {x y : Verdict} → Some x ≡ Some y → x ≡ y
 some_is e = cc
 
 -- what is decided of a case that is not true
-pub open_where : (nodes images : ℕ) (place : Place) (c : PosedCase) (decision : Decision) (found : Option Verdict) (verdict : Verdict) → IsDecided nodes images c decision → found ≡ verdict_at place.case.now decision → found ≡ Some verdict → IsOpen nodes images (case_at_place place c) verdict
+pub open_where : (nodes images : ℕ) (place : Place) (c : PosedCase) (decision : Decision) (found : Option Verdict) (verdict : Verdict) → IsDecided Declared nodes images c decision → found ≡ verdict_at place.case.now decision → found ≡ Some verdict → IsOpen nodes images (case_at_place place c) verdict
 open_where nodes images place c decided.True found verdict is e f = absurd (cc)
 open_where nodes images place c (decided.False elements path) found verdict (k, is, shown) e f =
     subst (IsOpen nodes images (case_at_place place c)) (some_is (sym e ∙ f)) (refl, (k, is, shown))

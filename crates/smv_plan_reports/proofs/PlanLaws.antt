@@ -26,6 +26,7 @@ use Rattle.smv_problem.specs.declared.report.Verdict.{Verdict}
 use Rattle.smv_problem.specs.declared.report.UnitResult.{UnitResult}
 use Rattle.smv_problem.specs.declared.report.Plan.{Plan}
 use Rattle.law_problems.specs.Parts.{IsCaseOf, entry_of, case_with}
+use Rattle.smv_bits.specs.declared.Bits.{Bits}
 use Rattle.law_reports.specs.Reports.{IsResultOf, AreResultsFrom}
 use Rattle.law_reports.specs.Told.{IsToldBy}
 use Rattle.law_reports.specs.PlanLaws.{IsAt}
@@ -66,30 +67,30 @@ length_entries (x ∷ units) [] choices e f = absurd (omega arith)
 length_entries (x ∷ units) (y ∷ leaves) [] e f = absurd (omega arith)
 length_entries (x ∷ units) (y ∷ leaves) (z ∷ choices) e f = ap (λ n. suc n) (length_entries units leaves choices (omega arith) (omega arith))
 
-module _ (s : Script) (nodes images : ℕ) where
-  one_more : (k : ℕ) (entries : List Entry) (results : List UnitResult) (entry : Entry) (r : UnitResult) → AreResultsFrom s nodes images k entries results → IsResultOf s nodes images (k + length entries) entry r
-      → AreResultsFrom s nodes images k (entries ++ (entry ∷ [])) (results ++ (r ∷ []))
-  one_more k [] [] entry r are is = let same : k + 0 ≡ k = omega arith in (subst (λ (n : ℕ). IsResultOf s nodes images n entry r) same is, tt)
+module _ (s : Script) (bits : Bits) (nodes images : ℕ) where
+  one_more : (k : ℕ) (entries : List Entry) (results : List UnitResult) (entry : Entry) (r : UnitResult) → AreResultsFrom s bits nodes images k entries results → IsResultOf s bits nodes images (k + length entries) entry r
+      → AreResultsFrom s bits nodes images k (entries ++ (entry ∷ [])) (results ++ (r ∷ []))
+  one_more k [] [] entry r are is = let same : k + 0 ≡ k = omega arith in (subst (λ (n : ℕ). IsResultOf s bits nodes images n entry r) same is, tt)
   one_more k [] (x ∷ results) entry r are is = absurd are
   one_more k (x ∷ entries) [] entry r are is = absurd are
   one_more k (x ∷ entries) (y ∷ results) entry r are is =
       let same : k + length (x ∷ entries) ≡ suc k + length entries = omega arith in
-      (are.0, one_more (suc k) entries results entry r are.1 (subst (λ (n : ℕ). IsResultOf s nodes images n entry r) same is))
+      (are.0, one_more (suc k) entries results entry r are.1 (subst (λ (n : ℕ). IsResultOf s bits nodes images n entry r) same is))
 
-  pub no_results : (entries : List Entry) (results : List UnitResult) → results ≡ [] → AreResultsFrom s nodes images 0 (take 0 entries) results
+  pub no_results : (entries : List Entry) (results : List UnitResult) → results ≡ [] → AreResultsFrom s bits nodes images 0 (take 0 entries) results
   no_results [] [] e = tt
   no_results (x ∷ entries) [] e = tt
   no_results [] (r ∷ results) e = absurd (cc)
   no_results (x ∷ entries) (r ∷ results) e = absurd (cc)
 
-  pub next_result : (u : ℕ) (results pushed : List UnitResult) (r : UnitResult) → u < length s.entries → AreResultsFrom s nodes images 0 (take u s.entries) results → ((entry : Entry) → slice_get s.entries u ≡ Some entry → IsResultOf s nodes images u entry r)
-      → pushed ≡ results ++ (r ∷ []) → AreResultsFrom s nodes images 0 (take (u + 1) s.entries) pushed
+  pub next_result : (u : ℕ) (results pushed : List UnitResult) (r : UnitResult) → u < length s.entries → AreResultsFrom s bits nodes images 0 (take u s.entries) results → ((entry : Entry) → slice_get s.entries u ≡ Some entry → IsResultOf s bits nodes images u entry r)
+      → pushed ≡ results ++ (r ∷ []) → AreResultsFrom s bits nodes images 0 (take (u + 1) s.entries) pushed
   next_result u results pushed r lt are each put =
       let entry = there s.entries u lt in
       let long : 0 + length (take u s.entries) ≡ u = let t = length-take-le u s.entries (omega arith) in omega arith in
-      subst (λ (rs : List UnitResult). AreResultsFrom s nodes images 0 (take (u + 1) s.entries) rs) (sym put)
-      (subst (λ (es : List Entry). AreResultsFrom s nodes images 0 es (results ++ (r ∷ []))) (sym (more s.entries u entry.0 entry.1 lt))
-      (one_more 0 (take u s.entries) results entry.0 r are (subst (λ (n : ℕ). IsResultOf s nodes images n entry.0 r) (sym long) (each entry.0 entry.1))))
+      subst (λ (rs : List UnitResult). AreResultsFrom s bits nodes images 0 (take (u + 1) s.entries) rs) (sym put)
+      (subst (λ (es : List Entry). AreResultsFrom s bits nodes images 0 es (results ++ (r ∷ []))) (sym (more s.entries u entry.0 entry.1 lt))
+      (one_more 0 (take u s.entries) results entry.0 r are (subst (λ (n : ℕ). IsResultOf s bits nodes images n entry.0 r) (sym long) (each entry.0 entry.1))))
     where
       there : (es : List Entry) (u : ℕ) → u < length es → (entry : Entry) × (slice_get es u ≡ Some entry)
       there [] u lt = absurd (omega arith)
@@ -104,10 +105,10 @@ module _ (s : Script) (nodes images : ℕ) where
           at (x ∷ es) zero entry e = some_is e
           at (x ∷ es) (suc u) entry e = at es u entry e
 
-  pub all_results : (u : ℕ) (results : List UnitResult) → length s.entries ≤ u → u ≤ length s.entries → AreResultsFrom s nodes images 0 (take u s.entries) results → AreResultsFrom s nodes images 0 s.entries results
+  pub all_results : (u : ℕ) (results : List UnitResult) → length s.entries ≤ u → u ≤ length s.entries → AreResultsFrom s bits nodes images 0 (take u s.entries) results → AreResultsFrom s bits nodes images 0 s.entries results
   all_results u results le ge are =
       let same : u ≡ length s.entries = omega arith in
-      subst (λ (es : List Entry). AreResultsFrom s nodes images 0 es results) (ap (λ (n : ℕ). take n s.entries) same ∙ take-length s.entries) are
+      subst (λ (es : List Entry). AreResultsFrom s bits nodes images 0 es results) (ap (λ (n : ℕ). take n s.entries) same ∙ take-length s.entries) are
 
 length_timed : (s : Script) (k : ℕ) (entries : List Entry) → length (timed_from s k entries) ≡ length entries
 length_timed s k [] = refl
@@ -153,13 +154,13 @@ module _ (plan : Plan) (whole : IsWholePlan plan) where
     pub unit_is : (entry_of plan.design leaf choice).unit ≡ unit
     unit_is = ap (λ (n : ℕ). unwrap_or (slice_get (units_of plan.design) n) (Claim 0)) (whole.own u leaf is_leaf) ∙ ap (λ (o : Option Unit). unwrap_or o (Claim 0)) (ap (λ (xs : List Unit). slice_get xs u) (sym whole.units) ∙ is_unit)
 
-    pub result_is : (nodes images : ℕ) (name : Name) (params : List Param) (verdict : Verdict) → name ≡ name_of plan.design (unit_in plan.design unit) → params ≡ leaf.params
-        → IsToldBy (case_with plan.design leaf choice timed) nodes images (leaf_cases plan.design.sets leaf.params choice.keeps) verdict → (entry : Entry) → slice_get (script_of plan.design plan.leaves plan.choices).entries u ≡ Some entry
-        → IsResultOf (script_of plan.design plan.leaves plan.choices) nodes images u entry (record { name = name; params = params; verdict = verdict })
-    result_is nodes images name params verdict named copied told entry is =
-        subst (λ (e : Entry). IsResultOf (script_of plan.design plan.leaves plan.choices) nodes images u e (record { name = name; params = params; verdict = verdict })) (some_is (sym (is_entry plan.design plan.leaves plan.choices u leaf choice at) ∙ is))
+    pub result_is : (bits : Bits) (nodes images : ℕ) (name : Name) (params : List Param) (verdict : Verdict) → name ≡ name_of plan.design (unit_in plan.design unit) → params ≡ leaf.params
+        → IsToldBy (case_with plan.design leaf choice timed) bits nodes images (leaf_cases plan.design.sets leaf.params choice.keeps) verdict → (entry : Entry) → slice_get (script_of plan.design plan.leaves plan.choices).entries u ≡ Some entry
+        → IsResultOf (script_of plan.design plan.leaves plan.choices) bits nodes images u entry (record { name = name; params = params; verdict = verdict })
+    result_is bits nodes images name params verdict named copied told entry is =
+        subst (λ (e : Entry). IsResultOf (script_of plan.design plan.leaves plan.choices) bits nodes images u e (record { name = name; params = params; verdict = verdict })) (some_is (sym (is_entry plan.design plan.leaves plan.choices u leaf choice at) ∙ is))
         (record {
           name = named ∙ ap (λ (x : Unit). name_of plan.design (unit_in plan.design x)) (sym unit_is);
           params = copied;
-          verdict = told_is plan.design plan.leaves plan.choices u leaf choice at timed (ap (λ (xs : List Timed). slice_get xs u) (sym whole.timed) ∙ is_timed) nodes images verdict told;
+          verdict = told_is plan.design plan.leaves plan.choices u leaf choice at timed (ap (λ (xs : List Timed). slice_get xs u) (sym whole.timed) ∙ is_timed) bits nodes images verdict told;
         })

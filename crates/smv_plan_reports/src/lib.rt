@@ -14,19 +14,25 @@ ghost use Rattle.law_valid_texts.specs.Rooms.{IsWholePlan};
 pub mod leaf;
 pub mod units;
 
+use smv_bits::Bits;
 use smv_core::Seq;
 pub use smv_decide::relations;
 use smv_problem::{Budgets, Plan, Report};
 use std::alloc::{AllocError, Global};
 use units::{result_alone, results};
 
-/// What is decided of the units of a plan: one result for each, in flat order, with the verdict under these budgets.
-pub fn prove_plan(alloc: Global, plan: Plan, budgets: Budgets) -> Result<Report, AllocError>
+/// What is decided of the units of a plan: one result for each, in flat order, with the verdict over bits that stand so, under these budgets.
+pub fn prove_plan(
+    alloc: Global,
+    plan: Plan,
+    bits: Bits,
+    budgets: Budgets,
+) -> Result<Report, AllocError>
     requires plan { IsWholePlan plan }
     requires steps { 1 ≤ budgets.steps }
-    ensures { IfOk result (λ report. IsReportOf (script_of plan.design plan.leaves plan.choices) budgets.nodes budgets.steps report) }
+    ensures { IfOk result (λ report. IsReportOf (script_of plan.design plan.leaves plan.choices) bits budgets.nodes budgets.steps report) }
 {
-    let units = results(alloc, &plan, budgets)?;
+    let units = results(alloc, &plan, bits, budgets)?;
     Ok(Report {
         design: plan.design,
         units,
@@ -38,14 +44,15 @@ pub fn prove_unit(
     alloc: Global,
     plan: Plan,
     u: usize,
+    bits: Bits,
     budgets: Budgets,
 ) -> Result<Report, AllocError>
     requires plan { IsWholePlan plan }
     requires there { u < length plan.units }
     requires steps { 1 ≤ budgets.steps }
-    ensures { IfOk result (λ report. (entry : Entry) → slice_get (script_of plan.design plan.leaves plan.choices).entries u ≡ Some entry → IsReportOfUnit (script_of plan.design plan.leaves plan.choices) budgets.nodes budgets.steps u entry report) }
+    ensures { IfOk result (λ report. (entry : Entry) → slice_get (script_of plan.design plan.leaves plan.choices).entries u ≡ Some entry → IsReportOfUnit (script_of plan.design plan.leaves plan.choices) bits budgets.nodes budgets.steps u entry report) }
 {
-    let unit = result_alone(alloc, &plan, u, budgets)?;
+    let unit = result_alone(alloc, &plan, u, bits, budgets)?;
     let mut units = Seq::new(alloc);
     units.push(unit)?;
     Ok(Report {

@@ -9,6 +9,7 @@ ghost use Rattle.smv_obligations.specs.Shared.{IsShared};
 ghost use Rattle.smv_plan_reports.specs.Numbers.{AreNumbers};
 
 use crate::leaf::decide_in;
+use smv_bits::Bits;
 use smv_chosen_table::{DefIndex, base_defs, index_of};
 use smv_copies::copy_name;
 use smv_core::Seq;
@@ -49,17 +50,22 @@ pub fn common_of(alloc: Global, design: &Design) -> Result<Shared, AllocError>
 }
 
 /// A result for each unit of a plan, in flat order. What is made once for the design goes from unit to unit.
-pub fn results(alloc: Global, plan: &Plan, budgets: Budgets) -> Result<Seq<UnitResult>, AllocError>
+pub fn results(
+    alloc: Global,
+    plan: &Plan,
+    bits: Bits,
+    budgets: Budgets,
+) -> Result<Seq<UnitResult>, AllocError>
     requires plan { IsWholePlan plan.now }
     requires steps { 1 ≤ budgets.steps }
-    ensures { IfOk result (λ results. AreResultsFrom (script_of plan.now.design plan.now.leaves plan.now.choices) budgets.nodes budgets.steps 0 (script_of plan.now.design plan.now.leaves plan.now.choices).entries results) }
+    ensures { IfOk result (λ results. AreResultsFrom (script_of plan.now.design plan.now.leaves plan.now.choices) bits budgets.nodes budgets.steps 0 (script_of plan.now.design plan.now.leaves plan.now.choices).entries results) }
 {
     let index = index_of(alloc, &plan.design, plan.units.as_slice())?;
     let mut table = base_defs(alloc, &plan.design, index.bases.as_slice())?;
     let mut common = common_of(alloc, &plan.design)?;
     let mut results = Seq::new(alloc);
     for u in 0..plan.units.len() {
-        let done = result_at(alloc, common, plan, &index, &mut table, u, budgets)?;
+        let done = result_at(alloc, common, plan, &index, &mut table, u, bits, budgets)?;
         common = done.shared;
         results.push(done.result)?;
     }
@@ -71,17 +77,18 @@ pub(crate) fn result_alone(
     alloc: Global,
     plan: &Plan,
     u: usize,
+    bits: Bits,
     budgets: Budgets,
 ) -> Result<UnitResult, AllocError>
     requires plan { IsWholePlan plan.now }
     requires there { u < length plan.now.units }
     requires steps { 1 ≤ budgets.steps }
-    ensures { IfOk result (λ r. (entry : Entry) → slice_get (script_of plan.now.design plan.now.leaves plan.now.choices).entries u ≡ Some entry → IsResultOf (script_of plan.now.design plan.now.leaves plan.now.choices) budgets.nodes budgets.steps u entry r) }
+    ensures { IfOk result (λ r. (entry : Entry) → slice_get (script_of plan.now.design plan.now.leaves plan.now.choices).entries u ≡ Some entry → IsResultOf (script_of plan.now.design plan.now.leaves plan.now.choices) bits budgets.nodes budgets.steps u entry r) }
 {
     let index = index_of(alloc, &plan.design, plan.units.as_slice())?;
     let mut table = base_defs(alloc, &plan.design, index.bases.as_slice())?;
     let common = common_of(alloc, &plan.design)?;
-    let done = result_at(alloc, common, plan, &index, &mut table, u, budgets)?;
+    let done = result_at(alloc, common, plan, &index, &mut table, u, bits, budgets)?;
     Ok(done.result)
 }
 
@@ -100,6 +107,7 @@ fn result_at<'a>(
     index: &DefIndex,
     table: &mut Vec<Option<&'a Def>>,
     u: usize,
+    bits: Bits,
     budgets: Budgets,
 ) -> Result<Done, AllocError>
     requires plan { IsWholePlan plan.now }
@@ -108,7 +116,7 @@ fn result_at<'a>(
     requires table { AreBaseDefs plan.now.design table.old.items }
     requires there { u < length plan.now.units }
     requires steps { 1 ≤ budgets.steps }
-    ensures result { IfOk result (λ done. (entry : Entry) → slice_get (script_of plan.now.design plan.now.leaves plan.now.choices).entries u ≡ Some entry → IsResultOf (script_of plan.now.design plan.now.leaves plan.now.choices) budgets.nodes budgets.steps u entry done.result) }
+    ensures result { IfOk result (λ done. (entry : Entry) → slice_get (script_of plan.now.design plan.now.leaves plan.now.choices).entries u ≡ Some entry → IsResultOf (script_of plan.now.design plan.now.leaves plan.now.choices) bits budgets.nodes budgets.steps u entry done.result) }
     ensures shared { IfOk result (λ done. IsShared plan.now.design done.shared) }
     ensures table { OnOk result (AreBaseDefs plan.now.design table.new.items) }
 {
@@ -128,6 +136,7 @@ fn result_at<'a>(
         timed,
         index,
         table,
+        bits,
         budgets,
     )?;
     Ok(Done {

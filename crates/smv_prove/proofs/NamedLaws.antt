@@ -10,6 +10,7 @@ use Rattle.smv_core.specs.declared.flat.Leaf.{Leaf}
 use Rattle.smv_core.specs.declared.flat.Choice.{Choice}
 use Rattle.law_obligations.specs.Outlines.{Entry, Script, entries_of, place_of}
 use Rattle.law_obligations.specs.Units.{units_of, script_of}
+use Rattle.smv_bits.specs.declared.Bits.{Bits}
 use Rattle.law_reports.specs.Reports.{IsReportOf}
 use Rattle.smv_problem.specs.declared.report.Plan.{Plan}
 use Rattle.smv_problem.specs.declared.report.Report.{Report}
@@ -113,9 +114,9 @@ module _ (text : List ℕ) (plan : Plan) (ready : IsReady text plan) (name : Lis
   pub is_below : (u : ℕ) → place_of (is_named plan.design name) plan.units ≡ Some u → u < length plan.units
   is_below u place = place_below (is_named plan.design name) plan.units u place
 
-  pub is_reported : (nodes steps u : ℕ) → place_of (is_named plan.design name) plan.units ≡ Some u → (report : Report) → ((entry : Entry) → slice_get (script_of plan.design plan.leaves plan.choices).entries u ≡ Some entry → IsReportOfUnit (script_of plan.design plan.leaves plan.choices) nodes steps u entry report)
-      → IsUnitReport text name nodes steps report
-  is_reported nodes steps u place report is =
+  pub is_reported : (bits : Bits) (nodes steps u : ℕ) → place_of (is_named plan.design name) plan.units ≡ Some u → (report : Report) → ((entry : Entry) → slice_get (script_of plan.design plan.leaves plan.choices).entries u ≡ Some entry → IsReportOfUnit (script_of plan.design plan.leaves plan.choices) bits nodes steps u entry report)
+      → IsUnitReport text name bits nodes steps report
+  is_reported bits nodes steps u place report is =
       let at = is_there u place in
       let same : 0 + u ≡ u = omega arith in (
         ready.tree,
@@ -124,9 +125,9 @@ module _ (text : List ℕ) (plan : Plan) (ready : IsReady text plan) (name : Lis
           u,
           at.entry,
           subst (λ (s : Script). unit_named s name ≡ Some (u, at.entry)) ready.is_script (at.named ∙ ap (λ (n : ℕ). Some (n, at.entry)) same),
-          subst (λ (s : Script). IsReportOfUnit s nodes steps u at.entry report) ready.is_script (is at.entry at.there),
+          subst (λ (s : Script). IsReportOfUnit s bits nodes steps u at.entry report) ready.is_script (is at.entry at.there),
         ),
       )
 
-pub all_reported : (text : List ℕ) (plan : Plan) → IsReady text plan → (nodes steps : ℕ) (report : Report) → IsReportOf (script_of plan.design plan.leaves plan.choices) nodes steps report → IsRightReport text nodes steps report
-all_reported text plan ready nodes steps report is = (ready.tree, ready.is_valid, subst (λ (s : Script). IsReportOf s nodes steps report) ready.is_script is)
+pub all_reported : (text : List ℕ) (plan : Plan) → IsReady text plan → (bits : Bits) (nodes steps : ℕ) (report : Report) → IsReportOf (script_of plan.design plan.leaves plan.choices) bits nodes steps report → IsRightReport text bits nodes steps report
+all_reported text plan ready bits nodes steps report is = (ready.tree, ready.is_valid, subst (λ (s : Script). IsReportOf s bits nodes steps report) ready.is_script is)

@@ -12,6 +12,7 @@ ghost use Rattle.smv_problem.specs.declared.report.Report.{Report};
 ghost use Rattle.smv_lex.specs.Answers.{IfFault};
 ghost use Rattle.smv_prove.specs.Ready.{IsReady};
 
+use smv_bits::Bits;
 use smv_core::Refusal;
 use smv_plan_reports::{prove_plan, prove_unit};
 use smv_problem::{Budgets, Plan, Report};
@@ -19,14 +20,14 @@ use smv_read_design::{place_named, plans_of_valid_texts_are_whole, read_design};
 use std::alloc::Global;
 
 /// A report of all units of a text, in flat order, or the text's first fault.
-pub fn prove(alloc: Global, text: &[u8], budgets: Budgets) -> Result<Report, Refusal>
+pub fn prove(alloc: Global, text: &[u8], bits: Bits, budgets: Budgets) -> Result<Report, Refusal>
     requires within { length text.now ≤ limit }
     requires steps { 1 ≤ budgets.steps }
-    ensures report { IfOk result (IsRightReport text.now budgets.nodes budgets.steps) }
+    ensures report { IfOk result (IsRightReport text.now bits budgets.nodes budgets.steps) }
     ensures fault { IfFault result (λ fault. (command : Command) → decides command ≡ true → IsFault command text.now fault.number fault.at) }
 {
     let plan = plan_of(alloc, text)?;
-    let report = prove_plan(alloc, plan, budgets)?;
+    let report = prove_plan(alloc, plan, bits, budgets)?;
     Ok(report)
 }
 
@@ -35,11 +36,12 @@ pub fn prove_one(
     alloc: Global,
     text: &[u8],
     name: &[u8],
+    bits: Bits,
     budgets: Budgets,
 ) -> Result<Option<Report>, Refusal>
     requires within { length text.now ≤ limit }
     requires steps { 1 ≤ budgets.steps }
-    ensures report { IfOk result (λ found. (report : Report) → found ≡ Some report → IsUnitReport text.now name.now budgets.nodes budgets.steps report) }
+    ensures report { IfOk result (λ found. (report : Report) → found ≡ Some report → IsUnitReport text.now name.now bits budgets.nodes budgets.steps report) }
     ensures none { IfOk result (λ found. found ≡ None → HasNoUnit text.now name.now) }
     ensures fault { IfFault result (λ fault. (command : Command) → decides command ≡ true → IsFault command text.now fault.number fault.at) }
 {
@@ -47,7 +49,7 @@ pub fn prove_one(
     let place = place_named(alloc, &plan.design, plan.units.as_slice(), name)?;
     match place {
         Some(u) => {
-            let report = prove_unit(alloc, plan, u, budgets)?;
+            let report = prove_unit(alloc, plan, u, bits, budgets)?;
             Ok(Some(report))
         }
         None => Ok(None),

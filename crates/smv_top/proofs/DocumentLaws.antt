@@ -4,6 +4,7 @@ use Rattle.std.specs.Prelude.{◌≢◌, if◌then◌else◌}
 use Rattle.std.specs.List.{list_any}
 use Rattle.smv_report.specs.Lines.{fault_text}
 use Rattle.smv_core.specs.declared.fault.Fault.{Fault}
+use Rattle.smv_bits.specs.declared.Bits.TheVariants.{Declared}
 use Rattle.smv_problem.specs.declared.report.Budgets.{Budgets}
 use Rattle.smv_problem.specs.declared.report.Report.{Report}
 use Rattle.smv_command.specs.declared.commands.Command.{Command}
@@ -32,7 +33,7 @@ module _ (budgets : Budgets) (text : List ℕ) (due : Status) (answer : List ℕ
   pub due_documented : (proof : Document) → IsProofOf budgets.nodes budgets.steps text proof → due ≡ status.Documented → answer ≡ document proof → IsDue (Proof budgets) text due answer
   due_documented proof is e f = rw e (rw f (of_documents (documented budgets proof is)))
 
-  pub due_open : (report : Report) → IsRightReport text budgets.nodes budgets.steps report → status_of status.Documented report ≢ status.Documented → due ≡ status_of status.Documented report → answer ≡ lines_for (Proof budgets) report →
+  pub due_open : (report : Report) → IsRightReport text Declared budgets.nodes budgets.steps report → status_of status.Documented report ≢ status.Documented → due ≡ status_of status.Documented report → answer ≡ lines_for (Proof budgets) report →
       IsDue (Proof budgets) text due answer
   due_open report is some_not e f = rw e (rw f (of_documents (open_report budgets report is some_not)))
 
@@ -113,15 +114,15 @@ no_old bytes old text is none other new proof is_too spells = none_at other (one
 -- ---- the fault of a text
 
 abbrev is_prove : Command → Bool
-is_prove (Prove budgets) = true
+is_prove (Prove bits budgets) = true
 is_prove _ = false
 
 fault_judged : (command : Command) (text : List ℕ) (number at : ℕ) → is_prove command ≡ true → IsFault command text number at → IsFaultOf text number at
 fault_judged command text _ _ e (dues.too_long long) = judgements.too_long long
 fault_judged command text _ _ e (dues.malformed number at within fault) = judgements.malformed number at within fault
 fault_judged command text _ _ e (dues.faulty tree fault deciding is found) = judgements.faulty tree fault is found
-fault_judged _ text _ _ e (dues.unnamed name nodes steps none) = absurd (true≢false (sym e))
+fault_judged _ text _ _ e (dues.unnamed name bits nodes steps none) = absurd (true≢false (sym e))
 fault_judged _ text _ _ e (dues.of_unit name sizes budgets number at is) = absurd (true≢false (sym e))
 
 pub text_fault : (text : List ℕ) (fault : Fault) → ((command : Command) → decides command ≡ true → IsFault command text fault.number fault.at) → IsFaultOf text fault.number fault.at
-text_fault text fault is = fault_judged (Prove (record { nodes = 1; steps = 1 })) text fault.number fault.at refl (is (Prove (record { nodes = 1; steps = 1 })) refl)
+text_fault text fault is = fault_judged (Prove Declared (record { nodes = 1; steps = 1 })) text fault.number fault.at refl (is (Prove Declared (record { nodes = 1; steps = 1 })) refl)

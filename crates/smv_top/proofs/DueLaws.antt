@@ -8,6 +8,7 @@ use Rattle.smv_lex.specs.Answers.{IfFault}
 use Rattle.smv_parse.specs.Spelling.{HasFault, SpellsText}
 use Rattle.smv_print.specs.Canonical.{canonical}
 use Rattle.smv_report.specs.Lines.{fault_text}
+use Rattle.smv_bits.specs.declared.Bits.{Bits}
 use Rattle.smv_problem.specs.declared.report.Budgets.{Budgets}
 use Rattle.smv_problem.specs.declared.report.Report.{Report}
 use Rattle.smv_command.specs.declared.commands.Command.{Command}
@@ -36,8 +37,8 @@ due_length command text due answer own long e f = due_fault command text 31 0 du
 pub due_form : (text : List ℕ) (number at : ℕ) (due : Status) (answer : List ℕ) → length text ≤ limit → HasFault text number at → due ≡ status.Refused → answer ≡ fault_text text number at → IsDue Print text due answer
 due_form text number at due answer within bad e f = due_fault Print text number at due answer refl (malformed number at within bad) e f
 
-pub due_name : (text name : List ℕ) (budgets : Budgets) (due : Status) (answer : List ℕ) → HasNoUnit text name → due ≡ status.Refused → answer ≡ fault_text text 26 0 → IsDue (Only name budgets) text due answer
-due_name text name budgets due answer none e f = due_fault (Only name budgets) text 26 0 due answer refl (unnamed name budgets.nodes budgets.steps none) e f
+pub due_name : (text name : List ℕ) (bits : Bits) (budgets : Budgets) (due : Status) (answer : List ℕ) → HasNoUnit text name → due ≡ status.Refused → answer ≡ fault_text text 26 0 → IsDue (Only name bits budgets) text due answer
+due_name text name bits budgets due answer none e f = due_fault (Only name bits budgets) text 26 0 due answer refl (unnamed name bits budgets.nodes budgets.steps none) e f
 
 -- the fault that a call answers
 pub fault_of : (X : Type 0) (r : Refusal) (f : Fault) (P : Fault → Type 0) → r ≡ refusal.Fault f → IfFault {X = X} (Err r) P → P f
@@ -59,8 +60,8 @@ due_usage command text answer none is = rw none (refl, is)
 
 -- a text that is too long, under a command whose text it is
 due_over : (command : Command) (text : List ℕ) → limit_for command < length text → IsDue command text status.Refused (fault_text text (length_fault command) 0)
-due_over (Prove budgets) text long = refused 31 0 refl (too_long long)
-due_over (Only name budgets) text long = refused 31 0 refl (too_long long)
+due_over (Prove bits budgets) text long = refused 31 0 refl (too_long long)
+due_over (Only name bits budgets) text long = refused 31 0 refl (too_long long)
 due_over Print text long = refused 31 0 refl (too_long long)
 due_over (Generated copies) text long = refused 31 0 refl (too_long long)
 due_over (Proof budgets) text long = of_documents (refused_text budgets 31 0 (judgement.too_long long))
@@ -81,17 +82,17 @@ pub due_copies : (command : Command) (copies : ℕ) (text made answer : List ℕ
 due_copies command copies text made answer due asks is owed = subst (λ t. IsDue command t due answer) (is ∙ sym (ap (λ c. text_for c text) asks)) owed
 
 -- the report of one unit, none, and a fault, under the command that asks for the unit
-pub report_of_unit : (command : Command) (text name : List ℕ) (budgets : Budgets) (report : Report) → command ≡ Only name budgets → IsUnitReport text name budgets.nodes budgets.steps report → IsReportFor command text report
-report_of_unit command text name budgets report asks is = rw asks is
+pub report_of_unit : (command : Command) (text name : List ℕ) (bits : Bits) (budgets : Budgets) (report : Report) → command ≡ Only name bits budgets → IsUnitReport text name bits budgets.nodes budgets.steps report → IsReportFor command text report
+report_of_unit command text name bits budgets report asks is = rw asks is
 
-pub due_no_unit : (command : Command) (text name : List ℕ) (budgets : Budgets) (due : Status) (answer : List ℕ) → command ≡ Only name budgets → HasNoUnit text name → due ≡ status.Refused → answer ≡ fault_text text 26 0 → IsDue command text due answer
-due_no_unit command text name budgets due answer asks none e f = rw asks (due_name text name budgets due answer none e f)
+pub due_no_unit : (command : Command) (text name : List ℕ) (bits : Bits) (budgets : Budgets) (due : Status) (answer : List ℕ) → command ≡ Only name bits budgets → HasNoUnit text name → due ≡ status.Refused → answer ≡ fault_text text 26 0 → IsDue command text due answer
+due_no_unit command text name bits budgets due answer asks none e f = rw asks (due_name text name bits budgets due answer none e f)
 
-pub decides_one : (command : Command) (name : List ℕ) (budgets : Budgets) → command ≡ Only name budgets → decides command ≡ true
-decides_one command name budgets asks = rw asks refl
+pub decides_one : (command : Command) (name : List ℕ) (bits : Bits) (budgets : Budgets) → command ≡ Only name bits budgets → decides command ≡ true
+decides_one command name bits budgets asks = rw asks refl
 
-pub own_one : (command : Command) (name : List ℕ) (budgets : Budgets) → command ≡ Only name budgets → is_of_documents command ≡ false
-own_one command name budgets asks = rw asks refl
+pub own_one : (command : Command) (name : List ℕ) (bits : Bits) (budgets : Budgets) → command ≡ Only name bits budgets → is_of_documents command ≡ false
+own_one command name bits budgets asks = rw asks refl
 
 -- the same, of equal bytes
 pub due_at : (command : Command) (text other : List ℕ) (due : Status) (answer written : List ℕ) → text ≡ other → answer ≡ written → IsDue command text due answer → IsDue command other due written

@@ -52,8 +52,8 @@ is_answered OutOfMemory = false
 is_answered _ = true
 
 is_own : (command : Command) → is_answered (proved_by command) ≡ true
-is_own (Prove budgets) = refl
-is_own (Only name budgets) = refl
+is_own (Prove bits budgets) = refl
+is_own (Only name bits budgets) = refl
 is_own Print = refl
 is_own (Generated copies) = refl
 is_own (Proof budgets) = refl
@@ -191,20 +191,20 @@ ranged (Some command) all = all command refl
 
 module _ (one : OneStatus) (command : Option Command) (text : List ℕ) (old new : Option (List ℕ)) where
   pub completed : (r : Status) → r ≢ ReadFault → r ≢ WriteFault → Ends r command text old new → Completes r command text
-  completed AllProved no_read no_write e due answer is = inl (one command text AllProved due e.0 answer e.1 is)
-  completed SomeFalse no_read no_write e due answer is = inl (one command text SomeFalse due e.0 answer e.1 is)
-  completed SomeUnknown no_read no_write e due answer is = inl (one command text SomeUnknown due e.0 answer e.1 is)
-  completed Refused no_read no_write e due answer is = inl (one command text Refused due e.0 answer e.1 is)
-  completed Usage no_read no_write e due answer is = inl (one command text Usage due e.0 answer e.1 is)
-  completed PartProved no_read no_write e due answer is = inl (one command text PartProved due e.0 answer e.1 is)
-  completed printed_out no_read no_write e due answer is = inl (one command text printed_out due e.0 answer e.1 is)
-  completed all_generated no_read no_write e due answer is = inl (one command text all_generated due e.0 answer e.1 is)
-  completed Documented no_read no_write e due answer is = inl (one command text Documented due e.0 answer e.1 is)
-  completed Checked no_read no_write e due answer is = inl (one command text Checked due e.0 answer e.1 is)
-  completed Rejected no_read no_write e due answer is = inl (one command text Rejected due e.0 answer e.1 is)
-  completed all_resumed no_read no_write e due answer is = inl (one command text all_resumed due e.0 answer e.1 is)
-  completed HoldsHere no_read no_write e due answer is = inl (one command text HoldsHere due e.0 answer e.1 is)
-  completed Real no_read no_write e due answer is = inl (one command text Real due e.0 answer e.1 is)
-  completed ReadFault no_read no_write e due answer is = absurd (no_read refl)
-  completed WriteFault no_read no_write e due answer is = absurd (no_write refl)
-  completed OutOfMemory no_read no_write e due answer is = inr refl
+  completed AllProved no_read no_write e due answer is p q = inl (one command text AllProved due e.0 answer e.1 is p q)
+  completed SomeFalse no_read no_write e due answer is p q = inl (one command text SomeFalse due e.0 answer e.1 is p q)
+  completed SomeUnknown no_read no_write e due answer is p q = inl (one command text SomeUnknown due e.0 answer e.1 is p q)
+  completed Refused no_read no_write e due answer is p q = inl (one command text Refused due e.0 answer e.1 is p q)
+  completed Usage no_read no_write e due answer is p q = inl (one command text Usage due e.0 answer e.1 is p q)
+  completed PartProved no_read no_write e due answer is p q = inl (one command text PartProved due e.0 answer e.1 is p q)
+  completed printed_out no_read no_write e due answer is p q = inl (one command text printed_out due e.0 answer e.1 is p q)
+  completed all_generated no_read no_write e due answer is p q = inl (one command text all_generated due e.0 answer e.1 is p q)
+  completed Documented no_read no_write e due answer is p q = inl (one command text Documented due e.0 answer e.1 is p q)
+  completed Checked no_read no_write e due answer is p q = inl (one command text Checked due e.0 answer e.1 is p q)
+  completed Rejected no_read no_write e due answer is p q = inl (one command text Rejected due e.0 answer e.1 is p q)
+  completed all_resumed no_read no_write e due answer is p q = inl (one command text all_resumed due e.0 answer e.1 is p q)
+  completed HoldsHere no_read no_write e due answer is p q = inl (one command text HoldsHere due e.0 answer e.1 is p q)
+  completed Real no_read no_write e due answer is p q = inl (one command text Real due e.0 answer e.1 is p q)
+  completed ReadFault no_read no_write e due answer is p q = absurd (no_read refl)
+  completed WriteFault no_read no_write e due answer is p q = absurd (no_write refl)
+  completed OutOfMemory no_read no_write e due answer is p q = inr refl

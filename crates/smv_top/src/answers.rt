@@ -10,6 +10,7 @@ use crate::confirmations::confirmed;
 use crate::documents::{checked, documented, resumed};
 use crate::limits::{LIMIT, TOO_LONG};
 use smv_answers::{Answer, printed, refused, reported};
+use smv_bits::Bits;
 use smv_command::Command;
 use smv_core::{Fault, Name, Refusal};
 use smv_parse::parse;
@@ -23,10 +24,14 @@ pub fn answer_to(alloc: Global, command: &Command, text: &[u8]) -> Result<Answer
     ensures { IfOk result (λ answer. IsDue command.now text.now answer.status answer.bytes.items) }
 {
     match command {
-        Command::Prove { budgets } => decided(alloc, command, text, *budgets),
-        Command::Only { name, budgets } => one_decided(alloc, command, text, name, *budgets),
+        Command::Prove { bits, budgets } => decided(alloc, command, text, *bits, *budgets),
+        Command::Only {
+            name,
+            bits,
+            budgets,
+        } => one_decided(alloc, command, text, name, *bits, *budgets),
         Command::Print => spelled(alloc, text),
-        Command::Generated { copies: _ } => decided(alloc, command, text, defaults()),
+        Command::Generated { copies: _ } => decided(alloc, command, text, Bits::Near, defaults()),
         Command::Proof { budgets } => documented(alloc, text, *budgets),
         Command::Check => checked(alloc, text),
         Command::Resume { budgets } => resumed(alloc, text, *budgets),
@@ -48,23 +53,24 @@ fn defaults() -> Budgets
     }
 }
 
-// The answer to a command that decides all units under these budgets.
+// The answer to a command that decides all units over bits that stand so, under these budgets.
 fn decided(
     alloc: Global,
     command: &Command,
     text: &[u8],
+    bits: Bits,
     budgets: Budgets,
 ) -> Result<Answer, AllocError>
     requires decides { decides command.now ≡ true }
     requires own { is_of_documents command.now ≡ false }
-    requires asks { (report : Report) → IsRightReport text.now budgets.nodes budgets.steps report → IsReportFor command.now text.now report }
+    requires asks { (report : Report) → IsRightReport text.now bits budgets.nodes budgets.steps report → IsReportFor command.now text.now report }
     requires in_range { AreInRange budgets }
     ensures { IfOk result (λ answer. IsDue command.now text.now answer.status answer.bytes.items) }
 {
     if text.len() > LIMIT {
         return refused(alloc, text, TOO_LONG);
     }
-    match prove(alloc, text, budgets) {
+    match prove(alloc, text, bits, budgets) {
         Ok(report) => reported(alloc, command, &report),
         Err(Refusal::Fault(fault)) => refused(alloc, text, fault),
         Err(Refusal::OutOfMemory) => Err(AllocError),
@@ -77,16 +83,17 @@ fn one_decided(
     command: &Command,
     text: &[u8],
     name: &Name,
+    bits: Bits,
     budgets: Budgets,
 ) -> Result<Answer, AllocError>
-    requires asks { command.now ≡ variant.Only name.now budgets }
+    requires asks { command.now ≡ variant.Only name.now bits budgets }
     requires in_range { AreInRange budgets }
     ensures { IfOk result (λ answer. IsDue command.now text.now answer.status answer.bytes.items) }
 {
     if text.len() > LIMIT {
         return refused(alloc, text, TOO_LONG);
     }
-    match prove_one(alloc, text, name.as_bytes(), budgets) {
+    match prove_one(alloc, text, name.as_bytes(), bits, budgets) {
         Ok(Some(report)) => reported(alloc, command, &report),
         Ok(None) => refused(alloc, text, Fault { number: 26, at: 0 }),
         Err(Refusal::Fault(fault)) => refused(alloc, text, fault),

@@ -67,7 +67,7 @@ pub fn run<S: Source, K: Sink>(
     ensures read_fault { result ≡ Status.ReadFault → Rose (S.faults source.old) (S.faults source.new) }
     ensures write_fault { result ≡ Status.WriteFault → Rose (K.faults sink.old) (K.faults sink.new) }
 
-    // Without faults the status is that to which the words and the text call for, or memory ran out.
+    // Without faults the status is that to which the words and the text call for, or memory ran out; over near bits it may also leave it open.
     ensures complete { ¬ Rose (S.faults source.old) (S.faults source.new) → ¬ Rose (K.faults sink.old) (K.faults sink.new) →
         IfSome (S.left source.old) (Completes result (command_of (map string_bytes words.now))) }
 
@@ -121,9 +121,13 @@ fn asked<S: Source, K: Sink>(
     ensures unwritten { (result ≡ Status.ReadFault) ⊎ (result ≡ Status.OutOfMemory) → sink.new ≡ sink.old }
 {
     match command {
-        Command::Prove { budgets: _ } => of_source(alloc, command, source, sink),
+        Command::Prove {
+            bits: _,
+            budgets: _,
+        } => of_source(alloc, command, source, sink),
         Command::Only {
             name: _,
+            bits: _,
             budgets: _,
         } => of_source(alloc, command, source, sink),
         Command::Print => of_source(alloc, command, source, sink),
@@ -172,9 +176,13 @@ fn limit_for(command: &Command) -> usize
     match command {
         Command::Check => CHECK_LIMIT,
         Command::Resume { budgets: _ } => RESUME_LIMIT,
-        Command::Prove { budgets: _ } => LIMIT,
+        Command::Prove {
+            bits: _,
+            budgets: _,
+        } => LIMIT,
         Command::Only {
             name: _,
+            bits: _,
             budgets: _,
         } => LIMIT,
         Command::Print => LIMIT,
@@ -195,9 +203,13 @@ fn too_long(command: &Command) -> &'static [u8]
     match command {
         Command::Check => DOCUMENT_TOO_LONG,
         Command::Resume { budgets: _ } => DOCUMENT_TOO_LONG,
-        Command::Prove { budgets: _ } => TEXT_TOO_LONG,
+        Command::Prove {
+            bits: _,
+            budgets: _,
+        } => TEXT_TOO_LONG,
         Command::Only {
             name: _,
+            bits: _,
             budgets: _,
         } => TEXT_TOO_LONG,
         Command::Print => TEXT_TOO_LONG,

@@ -227,6 +227,37 @@ const ROWS: &[Row] = &[
         4,
         USAGE,
     ),
+    // Over the declared bits a count is theirs; over near ones too where each arrangement passes the budget.
+    (
+        "prove --bits declared --nodes 4",
+        "module main() { x : boolean; init(x) := 0; next(x) := ~x; p : assert G (x | ~x); }",
+        2,
+        "p: unknown nodes 5\nproved 0 of 1\n",
+    ),
+    (
+        "only p --bits=declared",
+        "module main() { x : boolean; init(x) := 0; next(x) := ~x; p : assert G ~x; }",
+        1,
+        "p: false at 1\n time 0: x = 0\n time 1: x = 1\nproved 0 of 1\n",
+    ),
+    (
+        "prove --bits near --steps 7",
+        "module main() { x : 0..7; init(x) := 0; next(x) := (x + 1) mod 8; p : assert G (x <= 7); }",
+        2,
+        "p: unknown steps\nproved 0 of 1\n",
+    ),
+    (
+        "prove --bits far",
+        "module main() { x : boolean; init(x) := 0; next(x) := ~x; p : assert G (x | ~x); }",
+        4,
+        USAGE,
+    ),
+    (
+        "proof --bits declared",
+        "module main() { x : boolean; init(x) := 0; next(x) := ~x; p : assert G (x | ~x); }",
+        4,
+        USAGE,
+    ),
     ("generated 201", "", 4, USAGE),
     (
         "only",

@@ -1,5 +1,5 @@
 -- A path of assignments that are the states of a violating path of a case's lists is read as a shortest violating path of its problem.
-use Rattle.std.proofs.Common.{◌≡◌, ℕ, zero, suc, ◌<◌, List, [], ◌∷◌, ◌++◌, map, length, get_or, Bool, refl, sym, ap, subst, ◌∙◌, inl, inr, Result, Ok, Err, IfOk, arith}
+use Rattle.std.proofs.Common.{◌≡◌, ℕ, zero, suc, ◌<◌, List, [], ◌∷◌, ◌++◌, map, length, get_or, Bool, refl, sym, ap, subst, ◌∙◌, inl, inr, arith}
 use Rattle.std.specs.List.{All}
 use Rattle.std.specs.Global.{Vec}
 use Rattle.std.proofs.lemmas.Bool.{cases_lt}
@@ -10,20 +10,25 @@ use Rattle.std.proofs.Math.ListN.{get_or-map}
 use Rattle.law_lists.proofs.Lists.{length_map}
 use Rattle.bdd_store.specs.declared.Ref.{Ref}
 use Rattle.bdd_store.specs.Diagram.{Diagram, table}
-use Rattle.bdd_ops.specs.Functions.{Function}
+use Rattle.bdd_ops.specs.Functions.{Function, bit_at}
 use Rattle.smv_rings.specs.Lists.{Lists, State}
 use Rattle.smv_rings.specs.Paths.{IsViolating}
 use Rattle.smv_rings.specs.Schedule.{ring}
 use Rattle.smv_search.specs.Runs.{rings_to}
 use Rattle.law_obligations.specs.May.{AbsState}
 use Rattle.law_obligations.specs.CasePaths.{IsShortest, states_from}
+use Rattle.law_obligations.specs.Sets.{Has}
 use Rattle.law_obligations.specs.Readings.{PosedCase, reading, state_bits}
+use Rattle.law_obligations.proofs.ReadBack.{reading_agree}
 use Rattle.law_obligations.proofs.Listed.{shifted}
-use Rattle.law_reports.specs.CaseLists.{case_lists}
-use Rattle.law_reports.specs.ListLaws.{readings}
-use Rattle.law_reports.proofs.Paths.{least_is_least}
+use Rattle.law_arrangements.specs.Arrangements.{spread}
+use Rattle.law_arrangements.specs.Orders.{arranged, IsOrder}
+use Rattle.law_arrangements.specs.ArrangedLists.{lists_over}
+use Rattle.law_arrangements.specs.Laws.{shown, shown_at}
+use Rattle.law_arrangements.proofs.Paths.{least_is_least}
+use Rattle.law_arrangements.proofs.OrderLaws.{order_arranges}
 use Rattle.smv_problem.specs.Written.{written_state}
-use Rattle.smv_problem.specs.WellFormed.{IsWellFormed, OfCases}
+use Rattle.smv_problem.specs.WellFormed.{IsWellFormed, IsProblem, OfCases}
 use Rattle.smv_problem.specs.declared.problem.Problem.{Problem}
 use Rattle.smv_problem.specs.declared.problem.AbsState.{AbsState as StateData}
 use Rattle.smv_ring_paths.specs.BitPaths.{AreRings, state_of, states_of, by_time, HasBits, IsBitPath}
@@ -65,36 +70,52 @@ read_all f (s ∷ []) (suc n) e = absurd (omega arith)
 read_all f (s ∷ t ∷ xs) zero e = absurd (omega arith)
 read_all f (s ∷ t ∷ xs) (suc n) e = ap (λ ys. f s ∷ ys) (shifted (λ i. f (by_time (s ∷ t ∷ xs) i)) 0 n ∙ read_all f (t ∷ xs) n (omega arith))
 
-abbrev written_all : PosedCase → List (Vec Bool) → List StateData
-written_all c states = map (λ (state : Vec Bool). written_state c (reading c (state_of state))) states
+-- what is shown where each element has bits is what these are read as
+shown_is : (c : PosedCase) (order : List ℕ) (path : ℕ → State) (k : ℕ) → shown c (arranged order) path k ≡ states_from (λ i. reading c (spread order (path i))) 0 k
+shown_is c order path k = ap (λ (states : ℕ → AbsState). states_from states 0 k) (λ j i. at_each i j)
+  where
+    at_each : (i : ℕ) → shown_at c (arranged order) path i ≡ reading c (spread order (path i))
+    at_each zero = refl
+    at_each (suc i) = refl
 
-module _ (c : PosedCase) (well : IsWellFormed c) where
-  each_written : (states : List (Vec Bool)) → written_all c states ≡ map (written_state c) (map (reading c) (states_of states))
+abbrev written_all : PosedCase → List ℕ → List (Vec Bool) → List StateData
+written_all c order states = map (λ (state : Vec Bool). written_state c (reading c (spread order (state_of state)))) states
+
+module _ (c : PosedCase) (well : IsWellFormed c) (order : List ℕ) (orders : IsOrder (state_bits c) order) where
+  each_written : (states : List (Vec Bool)) → written_all c order states ≡ map (written_state c) (map (λ (s : State). reading c (spread order s)) (states_of states))
   each_written [] = refl
-  each_written (state ∷ states) = ap (λ (vs : List StateData). written_state c (reading c (state_of state)) ∷ vs) (each_written states)
+  each_written (state ∷ states) = ap (λ (vs : List StateData). written_state c (reading c (spread order (state_of state))) ∷ vs) (each_written states)
 
-  pub short_path : (l : Lists) → l ≡ case_lists c → (n depth : ℕ) → n ≡ depth → (states : List (Vec Bool)) → IsBitPath l n states → ((k : ℕ) → k < depth → (path : ℕ → State) → IsViolating l k path → ⊥)
-      → (shown : List StateData) → shown ≡ written_all c states → (path : List AbsState) × IsShortest c.problem depth path × (shown ≡ map (written_state c) path)
-  short_path l lists n depth same states bit_path none shown is =
+  pub short_path : (l : Lists) → l ≡ lists_over c (arranged order) → (n depth : ℕ) → n ≡ depth → (states : List (Vec Bool)) → IsBitPath l n states → ((k : ℕ) → k < depth → (path : ℕ → State) → IsViolating l k path → ⊥)
+      → (told : List StateData) → told ≡ written_all c order states → (path : List AbsState) × IsShortest c.problem depth path × (told ≡ map (written_state c) path)
+  short_path l lists n depth same states bit_path none told is =
       let path : ℕ → State = by_time (states_of states) in
-      let violates : IsViolating (case_lists c) depth path = subst (λ (m : Lists). IsViolating m depth path) lists (subst (λ (k : ℕ). IsViolating l k path) same bit_path.violates) in
+      let violates : IsViolating (lists_over c (arranged order)) depth path = subst (λ (m : Lists). IsViolating m depth path) lists (subst (λ (k : ℕ). IsViolating l k path) same bit_path.violates) in
       let long = bit_path.is_so_long in
       let many : length (states_of states) ≡ suc depth = length_map state_of states ∙ long ∙ ap (λ (k : ℕ). suc k) same in (
-        readings c path depth,
-        least_is_least c well.is_case depth path violates (λ j lt other v. none j lt other (subst (λ (m : Lists). IsViolating m j other) (sym lists) v)),
-        is ∙ each_written states ∙ ap (map (written_state c)) (sym (read_all (reading c) (states_of states) depth many)),
+        shown c (arranged order) path depth,
+        least_is_least c well.is_case (arranged order) (order_arranges c order orders) depth path violates (λ j lt other v. none j lt other (subst (λ (m : Lists). IsViolating m j other) (sym lists) v)),
+        is ∙ each_written states ∙ ap (map (written_state c)) (sym (shown_is c order path depth ∙ read_all (λ (s : State). reading c (spread order s)) (states_of states) depth many)),
       )
 
-bits_are : (l : Lists) (c : PosedCase) → l ≡ case_lists c → l.bits ≡ state_bits c
-unfolding case_lists
-bits_are l c e = ap (λ (m : Lists). m.bits) e
+bits_are : (l : Lists) (c : PosedCase) (order : List ℕ) → l ≡ lists_over c (arranged order) → l.bits ≡ length order
+unfolding lists_over
+bits_are l c order e = ap (λ (m : Lists). m.bits) e
 
-pub have_bits : (l : Lists) (c : PosedCase) → l ≡ case_lists c → (states : List (Vec Bool)) → All (HasBits l.bits) states → All (HasBits (state_bits c)) states
-have_bits l c lists states all = All-weaker (HasBits l.bits) (HasBits (state_bits c)) (λ state has. has ∙ bits_are l c lists) states all
+pub have_bits : (p : Problem) → IsProblem p → (l : Lists) (order : List ℕ) → OfCases p (λ c. l ≡ lists_over c (arranged order)) → (n : ℕ) → n ≡ length order → (states : List (Vec Bool)) → All (HasBits l.bits) states → All (HasBits n) states
+have_bits p (c, is, well) l order lists n same states all = All-weaker (HasBits l.bits) (HasBits n) (λ state has. has ∙ bits_are l c order (lists c is well) ∙ sym same) states all
 
 -- so is what a call reads
-pub read_path : {E : Type 0} (p : Problem) (l : Lists) → OfCases p (λ c. l ≡ case_lists c) → (n depth : ℕ) → n ≡ depth → (states : List (Vec Bool)) → IsBitPath l n states → ((k : ℕ) → k < depth → (path : ℕ → State) → IsViolating l k path → ⊥)
-    → (r : Result (List StateData) E) → IfOk r (λ shown. OfCases p (λ c. shown ≡ written_all c states))
-    → IfOk r (λ shown. OfCases p (λ c. (path : List AbsState) × IsShortest c.problem depth path × (shown ≡ map (written_state c) path)))
-read_path p l lists n depth same states bit_path none (Ok shown) read = λ c is well. short_path c well l (lists c is well) n depth same states bit_path none shown (read c is well)
-read_path p l lists n depth same states bit_path none (Err e) read = tt
+pub read_path : {E : Type 0} (p : Problem) (order : List ℕ) → OfCases p (λ c. IsOrder (state_bits c) order) → (l : Lists) → OfCases p (λ c. l ≡ lists_over c (arranged order)) → (n depth : ℕ) → n ≡ depth → (states : List (Vec Bool)) → IsBitPath l n states
+    → ((k : ℕ) → k < depth → (path : ℕ → State) → IsViolating l k path → ⊥) → (told : List StateData) → OfCases p (λ c. told ≡ written_all c order states)
+    → OfCases p (λ c. (path : List AbsState) × IsShortest c.problem depth path × (told ≡ map (written_state c) path))
+read_path p order orders l lists n depth same states bit_path none told read = λ c is well. short_path c well order (orders c is well) l (lists c is well) n depth same states bit_path none told (read c is well)
+
+-- ---- the bits of one state
+
+-- bits that are those at their places are read as these
+pub read_bits : (c : PosedCase) (order places : List ℕ) (bits values : List Bool) → length places ≡ state_bits c → ((b : ℕ) → b < length places → bit_at bits b ≡ spread order (bit_at values) b) → reading c (bit_at bits) ≡ reading c (spread order (bit_at values))
+read_bits c order places bits values count each = reading_agree c (bit_at bits) (spread order (bit_at values)) (λ b lt. each b (subst (λ (n : ℕ). b < n) (sym count) lt))
+
+pub within_state : (places : List ℕ) (n : ℕ) → ((q : ℕ) → Has places q → q < length places) → n ≡ length places → (q : ℕ) → Has places q → q < n
+within_state places n below same q h = subst (λ (m : ℕ). q < m) (sym same) (below q h)

@@ -1,13 +1,17 @@
 //! Paths of a case as abstract states: from the rings that a search found, a shortest violating path.
 //!
-//! For verdicts. `smv_ring_paths` goes back through the rings, and `smv_readings` reads each of its states as an abstract state of the problem.
+//! For verdicts. `smv_ring_paths` goes back through the rings; the bits of each of its states are brought from their places back to the order of the declarations, and `smv_readings` reads
+//! them as an abstract state of the problem.
 #![tactic(auto)]
 
-ghost use Rattle.std.specs.Prelude.{◌≡◌, ℕ, ◌<◌, List, map, IfOk};
+ghost use Rattle.std.specs.Prelude.{◌≡◌, ℕ, ◌<◌, List, length, map, IfOk};
 ghost use Rattle.std.specs.List.{All};
 ghost use Rattle.std.specs.Global.{Vec};
 ghost use Rattle.bdd_store.specs.declared.Ref.{Ref};
 ghost use Rattle.bdd_store.specs.Diagram.{IsLive, Keeps, table};
+ghost use Rattle.bdd_ops.specs.Functions.{bit_at};
+ghost use Rattle.law_obligations.specs.Sets.{Has};
+ghost use Rattle.smv_orders.specs.Places.{ArePlaces};
 ghost use Rattle.smv_rings.specs.Lists.{State, IsRel, lists_of};
 ghost use Rattle.smv_rings.specs.Paths.{IsViolating};
 ghost use Rattle.smv_rings.specs.Ops.{IsOneOf};
@@ -15,13 +19,16 @@ ghost use Rattle.smv_search.specs.Runs.{rings_to};
 ghost use Rattle.law_obligations.specs.May.{AbsState as Abstract};
 ghost use Rattle.law_obligations.specs.CasePaths.{IsShortest};
 ghost use Rattle.law_obligations.specs.Readings.{reading, state_bits};
-ghost use Rattle.law_reports.specs.CaseLists.{IsListsOf};
+ghost use Rattle.law_arrangements.specs.Arrangements.{spread};
+ghost use Rattle.law_arrangements.specs.Orders.{arranged, IsOrder};
+ghost use Rattle.law_arrangements.specs.ArrangedLists.{lists_over};
 ghost use Rattle.smv_problem.specs.Written.{written_state};
 ghost use Rattle.smv_problem.specs.WellFormed.{IsProblem, OfCases};
 ghost use Rattle.smv_ring_paths.specs.BitPaths.{state_of, HasBits};
 
 use bdd_store::{Ref, Store};
 use smv_core::Seq;
+use smv_orders::{bits_from_places, places_in};
 use smv_problem::{AbsState, Problem};
 use smv_readings::read_state;
 use smv_ring_paths::ring_path;
@@ -34,12 +41,14 @@ pub fn path(
     problem: &Problem,
     rel: &Rel,
     store: &mut Store,
+    order: &[u16],
     rings: &[Ref],
     depth: u32,
 ) -> Result<Seq<AbsState>, AllocError>
     requires well_formed { IsProblem problem.now }
+    requires order { OfCases problem.now (λ c. IsOrder (state_bits c) order.now) }
     requires rel { IsRel store.old rel.now }
-    requires lists { OfCases problem.now (λ c. IsListsOf c (lists_of store.old rel.now)) }
+    requires lists { OfCases problem.now (λ c. lists_of store.old rel.now ≡ lists_over c (arranged order.now)) }
     requires live { (r : Ref) → IsOneOf r rings.now → IsLive store.old r }
     requires rings { map (table store.old) rings.now ≡ rings_to (lists_of store.old rel.now) depth }
     requires some { (path : ℕ → State) × IsViolating (lists_of store.old rel.now) depth path }
@@ -48,23 +57,45 @@ pub fn path(
     ensures keeps { Keeps store.old store.new }
 {
     prove!(rings.len() == depth as usize);
+    let places = places_in(alloc, order)?;
     let states = ring_path(alloc, rel, store, rings)?;
-    read_states(alloc, problem, &states)
+    let path = read_states(alloc, problem, places.as_slice(), &states)?;
+    Ok(path)
 }
 
-// The abstract states that these states are read as.
+// The abstract state that a state over these places is read as.
+fn read_at(
+    alloc: Global,
+    problem: &Problem,
+    places: &[u16],
+    state: &[bool],
+) -> Result<AbsState, AllocError>
+    requires well_formed { IsProblem problem.now }
+    requires count { OfCases problem.now (λ c. length places.now ≡ state_bits c) }
+    requires within { (p : ℕ) → Has places.now p → p < length state.now }
+    ensures { IfOk result (λ read. OfCases problem.entry.now (λ c. (order : List ℕ) → ArePlaces order 0 places.now → read ≡ written_state c (reading c (spread order (bit_at state.now))))) }
+{
+    let bits = bits_from_places(alloc, places, state)?;
+    let read = read_state(alloc, problem, bits.as_slice())?;
+    Ok(read)
+}
+
+// The abstract states that states over these places are read as.
 fn read_states(
     alloc: Global,
     problem: &Problem,
+    places: &[u16],
     states: &[Vec<bool>],
 ) -> Result<Seq<AbsState>, AllocError>
     requires well_formed { IsProblem problem.now }
-    requires have_bits { OfCases problem.now (λ c. All (HasBits (state_bits c)) states.now) }
-    ensures { IfOk result (λ path. OfCases problem.entry.now (λ c. path ≡ map (λ (state : Vec _). written_state c (reading c (state_of state))) states.now)) }
+    requires count { OfCases problem.now (λ c. length places.now ≡ state_bits c) }
+    requires within { (p : ℕ) → Has places.now p → p < length places.now }
+    requires have_bits { All (HasBits (length places.now)) states.now }
+    ensures { IfOk result (λ path. OfCases problem.entry.now (λ c. (order : List ℕ) → ArePlaces order 0 places.now → path ≡ map (λ (state : Vec _). written_state c (reading c (spread order (state_of state)))) states.now)) }
 {
     let mut path = Seq::new(alloc);
     for state in states {
-        path.push(read_state(alloc, problem, state)?)?;
+        path.push(read_at(alloc, problem, places, state.as_slice())?)?;
     }
     Ok(path)
 }

@@ -1,6 +1,7 @@
 -- Worked words. The words of a row are written as one text, with a blank between two of them: so two blanks in a row, or one at an end, stand beside an empty word.
 use Rattle.std.specs.Prelude.{◌≡◌, ℕ, List, [], ◌∷◌, map, codes, Some, None, ◌==◌, if◌then◌else◌}
 use Rattle.clap.specs.Walk.{Text}
+use Rattle.smv_bits.specs.declared.Bits.TheVariants.{Near, Declared}
 use Rattle.smv_command.specs.declared.commands.Command.{Command}
 use Rattle.smv_command.specs.declared.commands.Command.TheVariants.{Prove, Only, Print, Generated}
 use Rattle.smv_command.specs.Commands.{command_of}
@@ -87,6 +88,21 @@ other_numbers =
     ∷ codes "generated 201"
     ∷ []
 
+-- bits that are named by none of their words, not at all, twice, or where a command has none
+abbrev pub other_bits : List Text
+other_bits =
+    codes "prove --bits"
+    ∷ codes "prove --bits="
+    ∷ codes "prove --bits far"
+    ∷ codes "prove --bits Near"
+    ∷ codes "prove --bits near,declared"
+    ∷ codes "prove --bits near --bits near"
+    ∷ codes "only p --bits 1"
+    ∷ codes "only --bits declared"
+    ∷ codes "proof --bits declared"
+    ∷ codes "--bits declared prove"
+    ∷ []
+
 -- options before the command or of another one, and names that begin as options do
 abbrev pub other_places : List Text
 other_places =
@@ -101,25 +117,35 @@ other_places =
 -- budgets, and their defaults
 abbrev pub budgets : List (Text × Command)
 budgets =
-    (codes "prove", Prove (record { nodes = 1000000; steps = 1000 }))
-    ∷ (codes "prove --", Prove (record { nodes = 1000000; steps = 1000 }))
-    ∷ (codes "prove --steps=8", Prove (record { nodes = 1000000; steps = 8 }))
-    ∷ (codes "prove --nodes=5", Prove (record { nodes = 5; steps = 1000 }))
-    ∷ (codes "prove --nodes 5", Prove (record { nodes = 5; steps = 1000 }))
-    ∷ (codes "prove --nodes +5", Prove (record { nodes = 5; steps = 1000 }))
-    ∷ (codes "prove --nodes=+5", Prove (record { nodes = 5; steps = 1000 }))
-    ∷ (codes "prove --nodes 05", Prove (record { nodes = 5; steps = 1000 }))
-    ∷ (codes "prove --nodes 000000000000000000000005", Prove (record { nodes = 5; steps = 1000 }))
-    ∷ (codes "prove --nodes 5 --", Prove (record { nodes = 5; steps = 1000 }))
-    ∷ (codes "prove --steps 6 --nodes 5", Prove (record { nodes = 5; steps = 6 }))
+    (codes "prove", Prove Near (record { nodes = 1000000; steps = 1000 }))
+    ∷ (codes "prove --", Prove Near (record { nodes = 1000000; steps = 1000 }))
+    ∷ (codes "prove --steps=8", Prove Near (record { nodes = 1000000; steps = 8 }))
+    ∷ (codes "prove --nodes=5", Prove Near (record { nodes = 5; steps = 1000 }))
+    ∷ (codes "prove --nodes 5", Prove Near (record { nodes = 5; steps = 1000 }))
+    ∷ (codes "prove --nodes +5", Prove Near (record { nodes = 5; steps = 1000 }))
+    ∷ (codes "prove --nodes=+5", Prove Near (record { nodes = 5; steps = 1000 }))
+    ∷ (codes "prove --nodes 05", Prove Near (record { nodes = 5; steps = 1000 }))
+    ∷ (codes "prove --nodes 000000000000000000000005", Prove Near (record { nodes = 5; steps = 1000 }))
+    ∷ (codes "prove --nodes 5 --", Prove Near (record { nodes = 5; steps = 1000 }))
+    ∷ (codes "prove --steps 6 --nodes 5", Prove Near (record { nodes = 5; steps = 6 }))
+    ∷ []
+
+-- bits, which are near where they are not named
+abbrev pub bits : List (Text × Command)
+bits =
+    (codes "prove --bits declared", Prove Declared (record { nodes = 1000000; steps = 1000 }))
+    ∷ (codes "prove --bits=declared --nodes 5", Prove Declared (record { nodes = 5; steps = 1000 }))
+    ∷ (codes "prove --bits near", Prove Near (record { nodes = 1000000; steps = 1000 }))
+    ∷ (codes "only p --bits declared", Only (codes "p") Declared (record { nodes = 1000000; steps = 1000 }))
+    ∷ (codes "only --bits=near -- declared", Only (codes "declared") Near (record { nodes = 1000000; steps = 1000 }))
     ∷ []
 
 -- the least and the most
 abbrev pub bounds : List (Text × Command)
 bounds =
-    (codes "prove --nodes 16777216", Prove (record { nodes = 16777216; steps = 1000 }))
-    ∷ (codes "prove --nodes 1", Prove (record { nodes = 1; steps = 1000 }))
-    ∷ (codes "prove --steps 100000", Prove (record { nodes = 1000000; steps = 100000 }))
+    (codes "prove --nodes 16777216", Prove Near (record { nodes = 16777216; steps = 1000 }))
+    ∷ (codes "prove --nodes 1", Prove Near (record { nodes = 1; steps = 1000 }))
+    ∷ (codes "prove --steps 100000", Prove Near (record { nodes = 1000000; steps = 100000 }))
     ∷ (codes "generated 1", Generated 1)
     ∷ (codes "generated 200", Generated 200)
     ∷ (codes "generated +007", Generated 7)
@@ -128,20 +154,20 @@ bounds =
 -- names: behind `--` any word is one
 abbrev pub names : List (Text × Command)
 names =
-    (codes "only p", Only (codes "p") (record { nodes = 1000000; steps = 1000 }))
-    ∷ (codes "only -- p", Only (codes "p") (record { nodes = 1000000; steps = 1000 }))
-    ∷ (codes "only p --", Only (codes "p") (record { nodes = 1000000; steps = 1000 }))
-    ∷ (codes "only -", Only (codes "-") (record { nodes = 1000000; steps = 1000 }))
-    ∷ (codes "only -- -p", Only (codes "-p") (record { nodes = 1000000; steps = 1000 }))
-    ∷ (codes "only -- --", Only (codes "--") (record { nodes = 1000000; steps = 1000 }))
-    ∷ (codes "only -- --nodes", Only (codes "--nodes") (record { nodes = 1000000; steps = 1000 }))
-    ∷ (codes "only ", Only [] (record { nodes = 1000000; steps = 1000 }))
-    ∷ (codes "only prove", Only (codes "prove") (record { nodes = 1000000; steps = 1000 }))
-    ∷ (codes "only help", Only (codes "help") (record { nodes = 1000000; steps = 1000 }))
-    ∷ (codes "only p --nodes 5", Only (codes "p") (record { nodes = 5; steps = 1000 }))
-    ∷ (codes "only --nodes 5 p", Only (codes "p") (record { nodes = 5; steps = 1000 }))
-    ∷ (codes "only --nodes=5 -- p", Only (codes "p") (record { nodes = 5; steps = 1000 }))
-    ∷ (codes "only --steps 7 p --nodes 5", Only (codes "p") (record { nodes = 5; steps = 7 }))
+    (codes "only p", Only (codes "p") Near (record { nodes = 1000000; steps = 1000 }))
+    ∷ (codes "only -- p", Only (codes "p") Near (record { nodes = 1000000; steps = 1000 }))
+    ∷ (codes "only p --", Only (codes "p") Near (record { nodes = 1000000; steps = 1000 }))
+    ∷ (codes "only -", Only (codes "-") Near (record { nodes = 1000000; steps = 1000 }))
+    ∷ (codes "only -- -p", Only (codes "-p") Near (record { nodes = 1000000; steps = 1000 }))
+    ∷ (codes "only -- --", Only (codes "--") Near (record { nodes = 1000000; steps = 1000 }))
+    ∷ (codes "only -- --nodes", Only (codes "--nodes") Near (record { nodes = 1000000; steps = 1000 }))
+    ∷ (codes "only ", Only [] Near (record { nodes = 1000000; steps = 1000 }))
+    ∷ (codes "only prove", Only (codes "prove") Near (record { nodes = 1000000; steps = 1000 }))
+    ∷ (codes "only help", Only (codes "help") Near (record { nodes = 1000000; steps = 1000 }))
+    ∷ (codes "only p --nodes 5", Only (codes "p") Near (record { nodes = 5; steps = 1000 }))
+    ∷ (codes "only --nodes 5 p", Only (codes "p") Near (record { nodes = 5; steps = 1000 }))
+    ∷ (codes "only --nodes=5 -- p", Only (codes "p") Near (record { nodes = 5; steps = 1000 }))
+    ∷ (codes "only --steps 7 p --nodes 5", Only (codes "p") Near (record { nodes = 5; steps = 7 }))
     ∷ []
 
 -- a command that takes nothing

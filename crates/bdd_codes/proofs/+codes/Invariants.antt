@@ -1,4 +1,5 @@
+use Rattle.std.proofs.Common.{length}
 use Rattle.bdd_codes.proofs.+codes.Given as goal
 
 abbrev pub decreases-codes : goal.decreases-codes
-decreases-codes l = l.width
+decreases-codes l = length l.places.now

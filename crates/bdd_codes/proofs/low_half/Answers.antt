@@ -1,19 +1,17 @@
 use Rattle.std.proofs.Common.{arith}
 use Rattle.bdd_store.proofs.Keeping.{keeps_then}
-use Rattle.bdd_codes.proofs.CodeLaws.{longer, from_pushed, low_pushed}
+use Rattle.bdd_codes.proofs.CodeLaws.{longer, live_pushed, low_pushed}
 use Rattle.bdd_codes.proofs.low_half.Goals as goal
 
 pub loop-i-preserved : goal.loop-i-preserved
 loop-i-preserved c =
     let long = longer c.loop-i.codes.items c.push.new.self.items c.in_ok-code.code c.in_ok-push.ensures.items in
     record {
-      keeps = keeps_then c.args.store.now c.loop-i.store c.node.new.self c.loop-i.invariant.keeps c.node.ensures.keeps;
+      keeps = keeps_then c.args.store.now c.loop-i.store c.choose.new.store c.loop-i.invariant.keeps c.in_ok-code.ensures.keeps;
       count = omega (arith, long);
-      from = from_pushed c.args.store.now c.loop-i.store c.node.new.self c.args.next c.args.bit c.variable-var.result c.args.later.now c.loop-i.codes.items c.push.new.self.items c.loop-i.i c.constant-never.result c.in_ok-code.code
-          c.loop-i.invariant.keeps c.node.ensures.keeps c.variable-var.ensures.from c.variable-var.ensures.is c.constant-never.ensures.live c.constant-never.ensures.constant
-          c.requires.later (omega arith) c.loop-i.invariant.from c.in_ok-code.ensures.live c.in_ok-code.ensures.first c.in_ok-push.ensures.items;
-      codes = λ width all few. low_pushed c.args.store.now c.loop-i.store c.node.new.self c.args.next c.args.bit c.variable-var.result c.args.later.now c.loop-i.codes.items c.push.new.self.items c.loop-i.i c.constant-never.result c.in_ok-code.code
-          c.loop-i.invariant.keeps c.node.ensures.keeps c.variable-var.ensures.from c.variable-var.ensures.is c.constant-never.ensures.live c.constant-never.ensures.constant
-          c.requires.later (omega arith) c.loop-i.invariant.from c.in_ok-code.ensures.live c.in_ok-code.ensures.first c.in_ok-push.ensures.items
-          c.in_ok-code.ensures.table c.loop-i.invariant.count width all few (c.loop-i.invariant.codes width all few);
+      live = live_pushed c.loop-i.store c.choose.new.store c.loop-i.codes.items c.push.new.self.items c.in_ok-code.code c.in_ok-code.ensures.keeps c.loop-i.invariant.live c.in_ok-code.ensures.live c.in_ok-push.ensures.items;
+      codes = λ lower all few. low_pushed c.args.store.now c.loop-i.store c.choose.new.store c.args.next c.args.place c.variable-var.result c.args.later.now c.loop-i.codes.items c.push.new.self.items c.loop-i.i c.constant-never.result c.in_ok-code.code
+          c.loop-i.invariant.keeps c.in_ok-code.ensures.keeps c.variable-var.ensures.is c.constant-never.ensures.live c.constant-never.ensures.constant
+          c.requires.later (omega arith) c.loop-i.invariant.live c.in_ok-push.ensures.items
+          c.in_ok-code.ensures.table c.loop-i.invariant.count lower all few (c.loop-i.invariant.codes lower all few);
     }

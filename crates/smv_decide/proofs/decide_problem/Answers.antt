@@ -1,14 +1,15 @@
-use Rattle.smv_search.proofs.Start.{rel_kept, lists_kept}
-use Rattle.smv_decide.proofs.Deciding.{found_after}
-use Rattle.std.proofs.Common.{◌∙◌}
+use Rattle.std.proofs.Common.{sym, subst}
+use Rattle.std.specs.Prelude.{IfOk}
+use Rattle.smv_bits.specs.declared.Bits.{Bits}
+use Rattle.smv_problem.specs.WellFormed.{OfCases}
+use Rattle.smv_decide.specs.declared.Decided.{Decided}
+use Rattle.smv_decide.specs.Decisions.{IsDecided}
 use Rattle.smv_decide.proofs.decide_problem.Goals as goal
 
-pub tell-requires-clause-rel : goal.tell-requires-clause-rel
-tell-requires-clause-rel c = rel_kept c.relations.new.store c.search.new.store c.in_ok-rel.rel c.search.ensures.keeps c.in_ok-rel.ensures.rel
+pub returns-in-Near-clause-decided : goal.returns-in-Near-clause-decided
+returns-in-Near-clause-decided c =
+    subst (λ (bits : Bits). IfOk c.over_near.result (λ (decided : Decided). OfCases c.args.problem (λ case. IsDecided bits c.args.budgets.nodes c.args.budgets.steps case decided.decision))) (sym c.in-Near.is) c.over_near.ensures.decided
 
-pub tell-requires-clause-lists : goal.tell-requires-clause-lists
-tell-requires-clause-lists c = λ case e well. lists_kept c.relations.new.store c.search.new.store c.in_ok-rel.rel c.search.ensures.keeps ∙ c.in_ok-rel.ensures.lists case e well
-
-pub tell-requires-clause-found : goal.tell-requires-clause-found
-tell-requires-clause-found c =
-    found_after c.relations.new.store c.search.new.store c.in_ok-rel.rel c.args.budgets.nodes c.args.budgets.steps c.in_ok-outcome.outcome c.search.ensures.keeps c.in_ok-outcome.ensures.verdict c.in_ok-outcome.ensures.false_case c.in_ok-outcome.ensures.found
+pub returns-in-Declared-clause-decided : goal.returns-in-Declared-clause-decided
+returns-in-Declared-clause-decided c =
+    subst (λ (bits : Bits). IfOk c.over_declared.result (λ (decided : Decided). OfCases c.args.problem (λ case. IsDecided bits c.args.budgets.nodes c.args.budgets.steps case decided.decision))) (sym c.in-Declared.is) c.over_declared.ensures.decided

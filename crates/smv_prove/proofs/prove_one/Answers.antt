@@ -11,8 +11,8 @@ prove_unit-requires-clause-there c =
 
 pub returns-in_ok-report-in-Some-clause-report : goal.returns-in_ok-report-in-Some-clause-report
 returns-in_ok-report-in-Some-clause-report c = λ report same.
-    subst (IsUnitReport c.args.text.now c.args.name.now c.args.budgets.nodes c.args.budgets.steps) (some_is same)
-    (is_reported c.args.text.now c.in_ok-plan.plan c.in_ok-plan.ensures.plan c.args.name.now c.args.budgets.nodes c.args.budgets.steps c.in-Some.u
+    subst (IsUnitReport c.args.text.now c.args.name.now c.args.bits c.args.budgets.nodes c.args.budgets.steps) (some_is same)
+    (is_reported c.args.text.now c.in_ok-plan.plan c.in_ok-plan.ensures.plan c.args.name.now c.args.bits c.args.budgets.nodes c.args.budgets.steps c.in-Some.u
     (found_among c.in_ok-plan.plan.design c.args.name.now c.in_ok-plan.plan.units c.as_slice.result.now c.in_ok-place.place (Some c.in-Some.u) c.as_slice.ensures c.in_ok-place.ensures c.in-Some.is)
     c.in_ok-report-in-Some.report c.in_ok-report-in-Some.ensures)
 

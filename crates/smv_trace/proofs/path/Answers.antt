@@ -1,7 +1,9 @@
-use Rattle.std.proofs.Common.{◌<◌, ℕ, List, Bool, sym, subst}
+use Rattle.std.proofs.Common.{◌≡◌, ◌<◌, ℕ, List, Bool, length, ap, sym, subst, ◌∙◌}
 use Rattle.std.specs.List.{All}
 use Rattle.std.specs.Global.{Vec}
-use Rattle.law_obligations.specs.Readings.{state_bits}
+use Rattle.law_obligations.specs.Sets.{Has}
+use Rattle.smv_orders.specs.Places.{ArePlaces}
+use Rattle.smv_orders.proofs.Orders.{order_few, order_whole, places_counted}
 use Rattle.smv_rings.specs.Lists.{State, lists_of}
 use Rattle.smv_rings.specs.Paths.{IsViolating}
 use Rattle.smv_rings.proofs.Refs.{live_each}
@@ -23,12 +25,26 @@ ring_path-requires-clause-none c =
     subst (λ (n : ℕ). (k : ℕ) → k < n → (path : ℕ → State) → IsViolating (lists_of c.args.store.now c.args.rel.now) k path → ⊥)
     (sym (rings_count c.args.store.now (lists_of c.args.store.now c.args.rel.now) c.args.rings.now c.args.depth c.requires.rings)) c.requires.none
 
+pub places_in-requires-clause-few : goal.places_in-requires-clause-few
+places_in-requires-clause-few c = order_few c.args.problem.now c.args.order.now c.requires.order c.requires.well_formed
+
+pub places_in-requires-clause-order : goal.places_in-requires-clause-order
+places_in-requires-clause-order c = order_whole c.args.problem.now c.args.order.now c.requires.order c.requires.well_formed
+
+pub read_states-requires-clause-count : goal.read_states-requires-clause-count
+read_states-requires-clause-count c = places_counted c.args.problem.now c.args.order.now c.requires.order c.as_slice.result.now (ap (λ (ps : List ℕ). length ps) c.as_slice.ensures.value ∙ c.in_ok-places.ensures.count)
+
+pub read_states-requires-clause-within : goal.read_states-requires-clause-within
+read_states-requires-clause-within c = λ q h.
+    subst (λ (n : ℕ). q < n) (sym (ap (λ (ps : List ℕ). length ps) c.as_slice.ensures.value ∙ c.in_ok-places.ensures.count)) (c.in_ok-places.ensures.within q (subst (λ (ps : List ℕ). Has ps q) c.as_slice.ensures.value h))
+
 pub read_states-requires-clause-have_bits : goal.read_states-requires-clause-have_bits
-read_states-requires-clause-have_bits c = λ d is well.
-    subst (λ (states : List (Vec Bool)). All (HasBits (state_bits d)) states) (sym c.deref.ensures.value)
-    (have_bits (lists_of c.args.store.now c.args.rel.now) d (c.requires.lists d is well) c.in_ok-states.states.items c.in_ok-states.ensures.path.have_bits)
+read_states-requires-clause-have_bits c =
+    subst (λ (states : List (Vec Bool)). All (HasBits (length c.as_slice.result.now)) states) (sym c.deref.ensures.value)
+    (have_bits c.args.problem.now c.requires.well_formed (lists_of c.args.store.now c.args.rel.now) c.args.order.now c.requires.lists (length c.as_slice.result.now) (ap (λ (ps : List ℕ). length ps) c.as_slice.ensures.value ∙ c.in_ok-places.ensures.count) c.in_ok-states.states.items c.in_ok-states.ensures.path.have_bits)
 
 pub returns-clause-shortest : goal.returns-clause-shortest
 returns-clause-shortest c =
-    read_path c.args.problem.now (lists_of c.args.store.now c.args.rel.now) c.requires.lists _ c.args.depth (rings_count c.args.store.now (lists_of c.args.store.now c.args.rel.now) c.args.rings.now c.args.depth c.requires.rings) c.deref.result.now
-    (subst (IsBitPath (lists_of c.args.store.now c.args.rel.now) _) (sym c.deref.ensures.value) c.in_ok-states.ensures.path) c.requires.none c.read_states.result c.read_states.ensures
+    read_path c.args.problem.now c.args.order.now c.requires.order (lists_of c.args.store.now c.args.rel.now) c.requires.lists _ c.args.depth (rings_count c.args.store.now (lists_of c.args.store.now c.args.rel.now) c.args.rings.now c.args.depth c.requires.rings) c.deref.result.now
+    (subst (IsBitPath (lists_of c.args.store.now c.args.rel.now) _) (sym c.deref.ensures.value) c.in_ok-states.ensures.path) c.requires.none c.in_ok-path.path
+    (λ d is well. c.in_ok-path.ensures d is well c.args.order.now (subst (ArePlaces c.args.order.now 0) (sym c.as_slice.ensures.value) c.in_ok-places.ensures.are))

@@ -8,8 +8,8 @@ returns c = unread
   where
     unread : UnreadIsDue
     unread None text other due answer nothing is = is
-    unread (Some (Prove budgets)) text other due answer nothing is = absurd (true≢false nothing)
-    unread (Some (Only name budgets)) text other due answer nothing is = absurd (true≢false nothing)
+    unread (Some (Prove bits budgets)) text other due answer nothing is = absurd (true≢false nothing)
+    unread (Some (Only name bits budgets)) text other due answer nothing is = absurd (true≢false nothing)
     unread (Some Print) text other due answer nothing is = absurd (true≢false nothing)
     unread (Some (Generated copies)) text other due answer nothing is = is
     unread (Some (Proof budgets)) text other due answer nothing is = absurd (true≢false nothing)

@@ -5,4 +5,4 @@ pub returns-clause-cases : goal.returns-clause-cases
 returns-clause-cases c d leaves choices u leaf choice at times is_time classes = case_is d leaves choices u leaf choice at times is_time classes
 
 pub returns-clause-told : goal.returns-clause-told
-returns-clause-told c d leaves choices u leaf choice at times is_time nodes images verdict told = told_is d leaves choices u leaf choice at times is_time nodes images verdict told
+returns-clause-told c d leaves choices u leaf choice at times is_time bits nodes images verdict told = told_is d leaves choices u leaf choice at times is_time bits nodes images verdict told

@@ -1,6 +1,7 @@
 -- The matches are those of the described command, and where clap refuses the words it is for a fault that it finds in them.
 use Rattle.std.proofs.Common.{◌≡◌, ◌∙◌, List, [], ◌∷◌, Option, None, ap, is_some, map, refl, subst, sym, true, true≢false, inl, inr}
 use Rattle.std.specs.Prelude.{option_and_then}
+use Rattle.std.proofs.lemmas.Result.{IfOk-weaker}
 use Rattle.std.specs.String.{string_bytes}
 use Rattle.clap.specs.Kinds.{Kinds, IsAmong}
 use Rattle.clap.specs.Values.{kind_of}
@@ -11,7 +12,8 @@ use Rattle.clap.proofs.OnLiterals.{clap_on_literals}
 use Rattle.smv_command.specs.CommandLine as line
 use Rattle.smv_command.specs.Commands.{command_of, where_faultless, named}
 use Rattle.smv_command.specs.declared.commands.Command.{Command}
-use Rattle.smv_command.proofs.Taken.{taken_named}
+use Rattle.smv_command.specs.Built.{IsGiven}
+use Rattle.smv_command.proofs.Taken.{taken_given}
 use Rattle.smv_command.proofs.words.command_of.Goals as goal
 
 is_free : is_simple_and_free line.smv ≡ true
@@ -43,7 +45,7 @@ command_in-requires c =
     let words = map string_bytes c.args.words.now in
     let taken : fault_of line.smv words ≡ [] = ap (λ (a : App). fault_of a words) (sym is) ∙ c.in-Ok.ensures.kinds (ap is_simple_and_free is ∙ is_free) in
     let rows : subcommand_rows_of c.in-Ok.matches ≡ subcommand_of line.smv words = (c.in-Ok.ensures.matches (ap is_simple is ∙ is_plain)).1 ∙ ap (λ (a : App). subcommand_of a words) is in
-    ap (λ (o : Option (Text × List Row)). is_some (chosen o)) rows ∙ taken_named words taken
+    subst IsGiven (sym rows) (taken_given words taken)
 
 pub returns-in-Ok : goal.returns-in-Ok
 returns-in-Ok c =
@@ -51,7 +53,7 @@ returns-in-Ok c =
     let words = map string_bytes c.args.words.now in
     let taken : fault_of line.smv words ≡ [] = ap (λ (a : App). fault_of a words) (sym is) ∙ c.in-Ok.ensures.kinds (ap is_simple_and_free is ∙ is_free) in
     let rows : subcommand_rows_of c.in-Ok.matches ≡ subcommand_of line.smv words = (c.in-Ok.ensures.matches (ap is_simple is ∙ is_plain)).1 ∙ ap (λ (a : App). subcommand_of a words) is in
-    sym (where_taken words taken ∙ (ap chosen (sym rows) ∙ c.in_ok-command_in-in-Ok.ensures))
+    IfOk-weaker c.command_in.result _ _ (λ found is. sym (where_taken words taken ∙ (ap chosen (sym rows) ∙ is))) c.command_in.ensures
 
 pub returns : goal.returns
 returns c =

@@ -6,8 +6,9 @@ use Rattle.clap.specs.Walk.{Row, Text, all_of}
 use Rattle.clap.specs.Simple.{subcommand_of}
 use Rattle.clap.specs.Faults.{fault_of}
 use Rattle.smv_command.specs.CommandLine.{smv}
-use Rattle.smv_command.specs.Commands.{both, budgets_in, command_of, where_faultless, name_in, named, number, number_in, numbers, sizes_in}
+use Rattle.smv_command.specs.Commands.{bits_in, both, budgets_in, command_of, where_faultless, name_in, named, number, number_in, numbers, sizes_in}
 use Rattle.smv_command.specs.Ranges.{AreInRange, AreSizes, IsInRange, most_nodes, most_steps, most_copies, most_size}
+use Rattle.smv_bits.specs.declared.Bits.{Bits}
 use Rattle.smv_problem.specs.declared.report.Budgets.{Budgets}
 use Rattle.smv_command.specs.declared.commands.Command.{Command}
 use Rattle.smv_command.specs.declared.commands.Command.TheVariants.{Prove, Only, Generated, Proof, Resume, Confirm}
@@ -80,6 +81,15 @@ confirm_ranged rows = go (name_in rows) (sizes_in rows) (budgets_in rows) (sizes
     go (Some n) (Some s) None p q = tt
     go (Some n) (Some s) (Some b) p q = (p, q)
 
+only_ranged : (rows : List Row) → InRange (option_map (λ p. Only p.0 p.1.0 p.1.1) (both (name_in rows) (both (bits_in rows) (budgets_in rows))))
+only_ranged rows = go (name_in rows) (bits_in rows) (budgets_in rows) (budgets_ranged rows)
+  where
+    go : (n : Option Text) (s : Option Bits) (b : Option Budgets) → BothInRange b → InRange (option_map (λ p. Only p.0 p.1.0 p.1.1) (both n (both s b)))
+    go None s b q = tt
+    go (Some n) None b q = tt
+    go (Some n) (Some s) None q = tt
+    go (Some n) (Some s) (Some b) q = q
+
 chosen : (b : Bool) (x y : Option Command) → InRange x → InRange y → InRange (if b then x else y)
 chosen true x y p q = p
 chosen false x y p q = q
@@ -88,8 +98,8 @@ named_ranged : (word : Text) (rows : List Row) → InRange (named word rows)
 unfolding named
 named_ranged word rows =
     let r = budgets_ranged rows in
-    chosen (bytes_eq word (codes "prove")) _ _ (plain Prove (budgets_in rows) (λ b p. p) r)
-    (chosen (bytes_eq word (codes "only")) _ _ (behind (λ p. Only p.0 p.1) (name_in rows) (budgets_in rows) (λ a b p. p) r)
+    chosen (bytes_eq word (codes "prove")) _ _ (behind (λ p. Prove p.0 p.1) (bits_in rows) (budgets_in rows) (λ a b p. p) r)
+    (chosen (bytes_eq word (codes "only")) _ _ (only_ranged rows)
     (chosen (bytes_eq word (codes "print")) _ _ tt
     (chosen (bytes_eq word (codes "generated")) _ _ (copies_ranged rows)
     (chosen (bytes_eq word (codes "proof")) _ _ (plain Proof (budgets_in rows) (λ b p. p) r)

@@ -1,6 +1,6 @@
+use Rattle.smv_bits.specs.declared.Bits.TheVariants.{Declared}
 use Rattle.std.proofs.Common.{take}
-use Rattle.law_reports.specs.Verdicts.{AreTrueCases}
-use Rattle.law_reports.specs.Told.{lists_for}
+use Rattle.law_reports.specs.Verdicts.{AreTrueCases, IsVerdictFor}
 use Rattle.smv_obligations.specs.Shared.{IsShared}
 use Rattle.smv_decide.specs.Leaves.{classes_in}
 use Rattle.smv_concrete.specs.Subjects.{case_in}
@@ -9,5 +9,5 @@ use Rattle.smv_confirm.proofs.cases.decide_cases.Given as goal
 abbrev pub invariant-loop-case : goal.invariant-loop-case
 invariant-loop-case l = record {
   shared : IsShared l.subject.design.now l.common;
-  are_true : AreTrueCases (lists_for (case_in l.subject) l.budgets.nodes l.budgets.steps) l.budgets.nodes l.budgets.steps (classes_in (take l.case-index l.cases));
+  are_true : AreTrueCases (IsVerdictFor (case_in l.subject) Declared l.budgets.nodes l.budgets.steps) (classes_in (take l.case-index l.cases));
 }

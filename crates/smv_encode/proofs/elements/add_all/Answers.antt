@@ -14,12 +14,12 @@ loop-demand-preserved c = record {
   keeps = keeps_then c.args.store.now c.loop-demand.store c.add_met.new.store c.loop-demand.invariant.keeps c.in_ok-add_met.ensures.keeps;
   out = c.in_ok-add_met.ensures.out;
   known = c.in_ok-add_met.ensures.known;
-  adds = λ d is well are ds h.
-      demand_adds d c.args.store.now c.loop-demand.store c.add_met.new.store ds c.args.demands.now c.loop-demand.demand-index c.args.out.now.items c.loop-demand.out.items c.add_met.new.out.items (map (met_at d c.args.step)) (λ (x : Demanded). met_at d c.args.step x ∷ []) (map_snoc (met_at d c.args.step))
-      c.demand-item.result c.loop-demand-test.true c.demand-item.is h (c.loop-demand.invariant.adds d is well are ds h)
-      (c.in_ok-add_met.ensures.adds d is well (cells_on d c.args.store.now c.loop-demand.store c.args.problem.now c.args.cells.now c.loop-demand.invariant.keeps c.requires.cells are));
+  adds = λ d is well o are ds h.
+      demand_adds d c.args.store.now c.loop-demand.store c.add_met.new.store ds c.args.demands.now c.loop-demand.demand-index c.args.out.now.items c.loop-demand.out.items c.add_met.new.out.items (map (met_at d o c.args.step)) (λ (x : Demanded). met_at d o c.args.step x ∷ []) (map_snoc (met_at d o c.args.step))
+      c.demand-item.result c.loop-demand-test.true c.demand-item.is h (c.loop-demand.invariant.adds d is well o are ds h)
+      (c.in_ok-add_met.ensures.adds d is well o (cells_on d o c.args.store.now c.loop-demand.store c.args.problem.now c.args.cells.now c.loop-demand.invariant.keeps c.requires.cells are));
 }
 
 pub returns-clause-adds : goal.returns-clause-adds
-returns-clause-adds c = λ d is well are ds h.
-    all_added d c.args.store.now c.loop-demand.store c.loop-demand.store ds c.args.demands.now c.loop-demand.demand-index c.args.out.now.items c.loop-demand.out.items c.loop-demand.out.items (map (met_at d c.args.step)) (omega arith) h (c.loop-demand.invariant.adds d is well are ds h)
+returns-clause-adds c = λ d is well o are ds h.
+    all_added d c.args.store.now c.loop-demand.store c.loop-demand.store ds c.args.demands.now c.loop-demand.demand-index c.args.out.now.items c.loop-demand.out.items c.loop-demand.out.items (map (met_at d o c.args.step)) (omega arith) h (c.loop-demand.invariant.adds d is well o are ds h)

@@ -16,14 +16,14 @@ loop-demand-preserved c = record {
   keeps = keeps_then c.args.store.now c.loop-demand.store c.add_met_if.new.store c.loop-demand.invariant.keeps c.in_ok-add_met_if.ensures.keeps;
   out = c.in_ok-add_met_if.ensures.out;
   known = c.in_ok-add_met_if.ensures.known;
-  adds = λ d is well are ds h.
-      demand_adds d c.args.store.now c.loop-demand.store c.add_met_if.new.store ds c.args.demands.now c.loop-demand.demand-index c.args.out.now.items c.loop-demand.out.items c.add_met_if.new.out.items (λ (xs : List Demanded). map (met_at d c.args.step) (filter is_claim xs))
-      (λ (y : Demanded). if is_claim y then met_at d c.args.step y ∷ [] else []) (filter_snoc (met_at d c.args.step) is_claim)
-      c.demand-item.result c.loop-demand-test.true c.demand-item.is h (c.loop-demand.invariant.adds d is well are ds h)
-      (told_adds d c.loop-demand.store c.add_met_if.new.store c.loop-demand.out.items c.add_met_if.new.out.items c.demand-item.result (met_at d c.args.step) is_claim c.is_claim-taken.result (claim_tells d c.demand-item.result c.is_claim-taken.result c.is_claim-taken.ensures)
-      (c.in_ok-add_met_if.ensures.adds d is well (cells_on d c.args.store.now c.loop-demand.store c.args.problem.now c.args.cells.now c.loop-demand.invariant.keeps c.requires.cells are)));
+  adds = λ d is well o are ds h.
+      demand_adds d c.args.store.now c.loop-demand.store c.add_met_if.new.store ds c.args.demands.now c.loop-demand.demand-index c.args.out.now.items c.loop-demand.out.items c.add_met_if.new.out.items (λ (xs : List Demanded). map (met_at d o c.args.step) (filter is_claim xs))
+      (λ (y : Demanded). if is_claim y then met_at d o c.args.step y ∷ [] else []) (filter_snoc (met_at d o c.args.step) is_claim)
+      c.demand-item.result c.loop-demand-test.true c.demand-item.is h (c.loop-demand.invariant.adds d is well o are ds h)
+      (told_adds d c.loop-demand.store c.add_met_if.new.store c.loop-demand.out.items c.add_met_if.new.out.items c.demand-item.result (met_at d o c.args.step) is_claim c.is_claim-taken.result (claim_tells d c.demand-item.result c.is_claim-taken.result c.is_claim-taken.ensures)
+      (c.in_ok-add_met_if.ensures.adds d is well o (cells_on d o c.args.store.now c.loop-demand.store c.args.problem.now c.args.cells.now c.loop-demand.invariant.keeps c.requires.cells are)));
 }
 
 pub returns-clause-adds : goal.returns-clause-adds
-returns-clause-adds c = λ d is well are ds h.
-    all_added d c.args.store.now c.loop-demand.store c.loop-demand.store ds c.args.demands.now c.loop-demand.demand-index c.args.out.now.items c.loop-demand.out.items c.loop-demand.out.items (λ (xs : List Demanded). map (met_at d c.args.step) (filter is_claim xs)) (omega arith) h (c.loop-demand.invariant.adds d is well are ds h)
+returns-clause-adds c = λ d is well o are ds h.
+    all_added d c.args.store.now c.loop-demand.store c.loop-demand.store ds c.args.demands.now c.loop-demand.demand-index c.args.out.now.items c.loop-demand.out.items c.loop-demand.out.items (λ (xs : List Demanded). map (met_at d o c.args.step) (filter is_claim xs)) (omega arith) h (c.loop-demand.invariant.adds d is well o are ds h)

@@ -7,9 +7,9 @@ pub returns-then-taken-clause-out : goal.returns-then-taken-clause-out
 returns-then-taken-clause-out c = live_pushed c.args.store.now c.element_at.new.store c.args.out.now.items c.push.new.self.items c.in_ok-r.r c.in_ok-r.ensures.keeps c.requires.out c.in_ok-push.ensures.items c.in_ok-r.ensures.live
 
 pub returns-then-taken-clause-adds : goal.returns-then-taken-clause-adds
-returns-then-taken-clause-adds c = λ d is well are x hx.
-    adds_taken c.args.store.now c.element_at.new.store c.args.out.now.items c.push.new.self.items (element_at d c.args.step (record { element = x; bit = c.args.bit }) ∷ []) c.args.taken c.if-taken.true
-    (adds_one c.args.store.now c.element_at.new.store c.args.out.now.items c.push.new.self.items c.in_ok-r.r (element_at d c.args.step (record { element = x; bit = c.args.bit })) c.in_ok-r.ensures.keeps c.requires.out c.in_ok-push.ensures.items (c.in_ok-r.ensures.means d is well are x hx))
+returns-then-taken-clause-adds c = λ d is well o are x hx bit placed.
+    adds_taken c.args.store.now c.element_at.new.store c.args.out.now.items c.push.new.self.items (element_at d o c.args.step (record { element = x; bit = bit }) ∷ []) c.args.taken c.if-taken.true
+    (adds_one c.args.store.now c.element_at.new.store c.args.out.now.items c.push.new.self.items c.in_ok-r.r (element_at d o c.args.step (record { element = x; bit = bit })) c.in_ok-r.ensures.keeps c.requires.out c.in_ok-push.ensures.items (c.in_ok-r.ensures.means d is well o are x hx bit placed))
 
 pub returns-clause-adds : goal.returns-clause-adds
-returns-clause-adds c = λ d is well are x hx. adds_skipped c.args.store.now c.args.out.now.items (element_at d c.args.step (record { element = x; bit = c.args.bit }) ∷ []) c.args.taken c.if-taken.false
+returns-clause-adds c = λ d is well o are x hx bit placed. adds_skipped c.args.store.now c.args.out.now.items (element_at d o c.args.step (record { element = x; bit = bit }) ∷ []) c.args.taken c.if-taken.false

@@ -7,6 +7,6 @@ pub returns-clause-out : goal.returns-clause-out
 returns-clause-out c = live_pushed c.args.store.now c.met_at.new.store c.args.out.now.items c.push.new.self.items c.in_ok-r.r c.in_ok-r.ensures.keeps c.requires.out c.in_ok-push.ensures.items c.in_ok-r.ensures.live
 
 pub returns-clause-adds : goal.returns-clause-adds
-returns-clause-adds c = λ d is well are x h.
-    adds_one c.args.store.now c.met_at.new.store c.args.out.now.items c.push.new.self.items c.in_ok-r.r (met_at d c.args.step x) c.in_ok-r.ensures.keeps c.requires.out c.in_ok-push.ensures.items
-    (c.in_ok-r.ensures.means d is well are x (one_demand d x c.args.demand.now h) (h.fit x first) (h.kept x first))
+returns-clause-adds c = λ d is well o are x h.
+    adds_one c.args.store.now c.met_at.new.store c.args.out.now.items c.push.new.self.items c.in_ok-r.r (met_at d o c.args.step x) c.in_ok-r.ensures.keeps c.requires.out c.in_ok-push.ensures.items
+    (c.in_ok-r.ensures.means d is well o are x (one_demand d x c.args.demand.now h) (h.fit x first) (h.kept x first))

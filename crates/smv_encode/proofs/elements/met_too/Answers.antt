@@ -9,10 +9,10 @@ use Rattle.smv_encode.proofs.KnownCases.{case_known_kept}
 use Rattle.smv_encode.proofs.elements.met_too.Goals as goal
 
 pub returns-then-taken-clause-means : goal.returns-then-taken-clause-means
-returns-then-taken-clause-means c = λ d is well are x h a.
-    too_taken c.args.taken (table c.args.store.now c.args.others a) (met_at d c.args.step x a) (table c.and.new.store c.in_ok-r.r a) (table c.met_at.new.store c.in_ok-met.met a) c.if-taken.true
+returns-then-taken-clause-means c = λ d is well o are x h a.
+    too_taken c.args.taken (table c.args.store.now c.args.others a) (met_at d o c.args.step x a) (table c.and.new.store c.in_ok-r.r a) (table c.met_at.new.store c.in_ok-met.met a) c.if-taken.true
     (c.in_ok-r.ensures.table a ∙ ap (λ (b : Bool). b && table c.met_at.new.store c.in_ok-met.met a) (c.in_ok-met.ensures.keeps.tables c.args.others c.requires.others a))
-    (ap (λ (f : Function). f a) (c.in_ok-met.ensures.means d is well are x (one_demand d x c.args.demand.now h) (h.fit x first) (h.kept x first)))
+    (ap (λ (f : Function). f a) (c.in_ok-met.ensures.means d is well o are x (one_demand d x c.args.demand.now h) (h.fit x first) (h.kept x first)))
 
 pub returns-then-taken-clause-known : goal.returns-then-taken-clause-known
 returns-then-taken-clause-known c =

@@ -14,5 +14,5 @@ invariant-loop-demand l = record {
   keeps : Keeps l.initial.store l.store;
   live : IsLive l.store l.r;
   known : AreKnownOfCase l.store l.problem l.cells l.known;
-  means : OfCases l.problem (λ c. AreCellsOf c l.initial.store l.problem l.cells → (x : AbsElement) → AreElements c (x ∷ []) (l.element ∷ []) → (ds : List Demanded) → AreDemands c ds l.demands → (a : ℕ → Bool) → table l.store l.r a ≡ list_all (λ d. met_at c l.step d a) (those_of (take l.demand-index ds) x));
+  means : OfCases l.problem (λ c. (o : List ℕ) → AreCellsOf c o l.initial.store l.problem l.cells → (x : AbsElement) → AreElements c (x ∷ []) (l.element ∷ []) → (ds : List Demanded) → AreDemands c ds l.demands → (a : ℕ → Bool) → table l.store l.r a ≡ list_all (λ d. met_at c o l.step d a) (those_of (take l.demand-index ds) x));
 }

@@ -12,4 +12,4 @@ decide_cases-requires-clause-cases c =
 
 pub returns-in_ok-told-in-Ok-clause-told : goal.returns-in_ok-told-in-Ok-clause-told
 returns-in_ok-told-in-Ok-clause-told c =
-    subst (λ (cases : List (List Class)). IsToldBy (case_in c.args.task.now) c.args.budgets.nodes c.args.budgets.steps cases c.in_ok-told-in-Ok.told.verdict) (ap classes_in c.as_slice.ensures ∙ c.in-Ok.ensures.cases) c.in_ok-told-in-Ok.ensures.told
+    subst (λ (cases : List (List Class)). IsToldBy (case_in c.args.task.now) c.args.bits c.args.budgets.nodes c.args.budgets.steps cases c.in_ok-told-in-Ok.told.verdict) (ap classes_in c.as_slice.ensures ∙ c.in-Ok.ensures.cases) c.in_ok-told-in-Ok.ensures.told

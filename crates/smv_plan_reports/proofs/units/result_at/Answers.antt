@@ -34,4 +34,4 @@ returns-clause-result c =
     (part_at c.args.plan.now.leaves c.as_slice.result.now c.args.u c.index-as_slice-u.result c.as_slice.ensures (each_leaf c.args.plan.now c.requires.plan c.args.u c.requires.there) c.index-as_slice-u.is)
     (part_at c.args.plan.now.choices c.as_slice-2.result.now c.args.u c.index-as_slice-u-2.result c.as_slice-2.ensures (each_choice c.args.plan.now c.requires.plan c.args.u c.requires.there) c.index-as_slice-u-2.is)
     (part_at c.args.plan.now.timed c.as_slice-3.result.now c.args.u c.index-as_slice-u-3.result c.as_slice-3.ensures (each_timed c.args.plan.now c.requires.plan c.args.u c.requires.there) c.index-as_slice-u-3.is)
-    c.args.budgets.nodes c.args.budgets.steps c.in_ok-name.name c.in_ok-params.params c.in_ok-told.told.verdict c.in_ok-name.ensures (c.in_ok-params.ensures ∙ c.as_slice-4.ensures) c.in_ok-told.ensures.told
+    c.args.bits c.args.budgets.nodes c.args.budgets.steps c.in_ok-name.name c.in_ok-params.params c.in_ok-told.told.verdict c.in_ok-name.ensures (c.in_ok-params.ensures ∙ c.as_slice-4.ensures) c.in_ok-told.ensures.told

@@ -14,7 +14,7 @@ result_at-requires-clause-index c = subst (λ (units : List Unit). IsIndex c.arg
 
 pub loop-u-init : goal.loop-u-init
 loop-u-init c = record {
-  results = no_results (script_of c.args.plan.now.design c.args.plan.now.leaves c.args.plan.now.choices) c.args.budgets.nodes c.args.budgets.steps (script_of c.args.plan.now.design c.args.plan.now.leaves c.args.plan.now.choices).entries c.new-results.result c.new-results.ensures;
+  results = no_results (script_of c.args.plan.now.design c.args.plan.now.leaves c.args.plan.now.choices) c.args.bits c.args.budgets.nodes c.args.budgets.steps (script_of c.args.plan.now.design c.args.plan.now.leaves c.args.plan.now.choices).entries c.new-results.result c.new-results.ensures;
   shared = c.in_ok-common.ensures;
   table = c.in_ok-table.ensures;
 }
@@ -27,7 +27,7 @@ loop-u-preserved c = record {
       let end = c.len-u-end.ensures in
       let long = entries_long c.args.plan.now c.requires.plan in
       omega (arith, test, end, long) in
-      next_result (script_of c.args.plan.now.design c.args.plan.now.leaves c.args.plan.now.choices) c.args.budgets.nodes c.args.budgets.steps c.loop-u.u c.loop-u.results c.push.new.self c.in_ok-done.done.result below c.loop-u.invariant.results c.in_ok-done.ensures.result c.in_ok-push.ensures.ok;
+      next_result (script_of c.args.plan.now.design c.args.plan.now.leaves c.args.plan.now.choices) c.args.bits c.args.budgets.nodes c.args.budgets.steps c.loop-u.u c.loop-u.results c.push.new.self c.in_ok-done.done.result below c.loop-u.invariant.results c.in_ok-done.ensures.result c.in_ok-push.ensures.ok;
   shared = c.in_ok-done.ensures.shared;
   table = c.in_ok-done.ensures.table;
 }
@@ -38,4 +38,4 @@ returns c =
     let held = c.loop-u.auto.u-end in
     let end = c.len-u-end.ensures in
     let long = entries_long c.args.plan.now c.requires.plan in
-    all_results (script_of c.args.plan.now.design c.args.plan.now.leaves c.args.plan.now.choices) c.args.budgets.nodes c.args.budgets.steps c.loop-u.u c.loop-u.results (omega (arith, test, end, long)) (omega (arith, held, end, long)) c.loop-u.invariant.results
+    all_results (script_of c.args.plan.now.design c.args.plan.now.leaves c.args.plan.now.choices) c.args.bits c.args.budgets.nodes c.args.budgets.steps c.loop-u.u c.loop-u.results (omega (arith, test, end, long)) (omega (arith, held, end, long)) c.loop-u.invariant.results

@@ -6,4 +6,4 @@ use Rattle.worked_texts.proofs.words.worked_words.Goals as goal
 
 pub returns : goal.returns
 unfolding clap_on_literals command_of named
-returns c = record { nothing = refl; none = refl; options = refl; numbers = refl; places = refl; budgets = refl; bounds = refl; names = refl; plain = refl }
+returns c = record { nothing = refl; none = refl; options = refl; numbers = refl; misnamed = refl; places = refl; budgets = refl; bits = refl; bounds = refl; names = refl; plain = refl }

@@ -1,0 +1,176 @@
+// A problem is tried over more than one order of its bits.
+ghost use Rattle.std.specs.Prelude.{◌≡◌, ◌≤◌, ℕ, true, false, IfOk};
+ghost use Rattle.smv_rings.specs.Lists.{IsRel, lists_of};
+ghost use Rattle.law_obligations.specs.Readings.{state_bits as bits_of_case};
+ghost use Rattle.smv_core.specs.Values.{numbers_from};
+ghost use Rattle.law_events.specs.Events.{IsFirstEvent};
+ghost use Rattle.law_reports.specs.Verdicts.{MayBeTold};
+ghost use Rattle.law_arrangements.specs.Orders.{arranged, IsOrder};
+ghost use Rattle.law_arrangements.specs.ArrangedLists.{lists_over};
+ghost use Rattle.smv_problem.specs.WellFormed.{IsProblem, OfCases};
+ghost use Rattle.smv_decide.specs.Decisions.{IsFound};
+ghost use Rattle.smv_decide.specs.Tries.{IsTried, is_out};
+
+use bdd_store::Store;
+use smv_bit_order::near_order;
+use smv_core::Seq;
+use smv_encode::relations_over;
+use smv_orders::declared_order;
+use smv_problem::{AbsState, Budgets, Problem};
+use smv_readings::state_bits;
+use smv_rings::Rel;
+use smv_search::{Outcome, search};
+use smv_trace::path;
+use std::alloc::{AllocError, Global};
+
+/// What is found of a problem over an order of its bits.
+#[derive(Drop)]
+pub enum Tried {
+    /// It has no violating path.
+    Safe,
+    /// It has one: a shortest.
+    Broken { path: Seq<AbsState> },
+    /// The budget of nodes was passed by this count of beads.
+    OutOfNodes { count: usize },
+    /// The budget of images was used up.
+    OutOfSteps,
+}
+
+/// The first tries are made under this part of the budget of nodes.
+const PART: u32 = 16;
+
+/// Whether the budget of nodes was passed.
+pub(crate) fn is_out_of_nodes(tried: &Tried) -> bool
+    ensures { result ≡ is_out tried.now }
+{
+    match tried {
+        Tried::Safe => false,
+        Tried::Broken { .. } => false,
+        Tried::OutOfNodes { .. } => true,
+        Tried::OutOfSteps => false,
+    }
+}
+
+// What the outcome of a search over an order of the bits says of the problem, with a shortest path where it reaches a violation.
+fn found_over(
+    alloc: Global,
+    problem: &Problem,
+    order: &[u16],
+    rel: &Rel,
+    store: &mut Store,
+    outcome: Outcome,
+    budgets: Budgets,
+) -> Result<Tried, AllocError>
+    requires well_formed { IsProblem problem.now }
+    requires order { OfCases problem.now (λ c. IsOrder (bits_of_case c) order.now) }
+    requires rel { IsRel store.old rel.now }
+    requires lists { OfCases problem.now (λ c. lists_of store.old rel.now ≡ lists_over c (arranged order.now)) }
+    requires found { IsFound store.old (lists_of store.old rel.now) budgets.nodes budgets.steps outcome }
+    ensures { IfOk result (λ tried. OfCases problem.entry.now (λ c. IsTried (IsFirstEvent (lists_over c (arranged order.now)) budgets.nodes budgets.steps) c tried)) }
+{
+    match outcome {
+        Outcome::Closed { set: _ } => Ok(Tried::Safe),
+        Outcome::Reaches { depth, rings } => {
+            let states = path(alloc, problem, rel, store, order, &rings, depth)?;
+            Ok(Tried::Broken { path: states })
+        }
+        Outcome::OutOfNodes { count } => Ok(Tried::OutOfNodes { count }),
+        Outcome::OutOfSteps => Ok(Tried::OutOfSteps),
+    }
+}
+
+// A try over an order of the bits, with a store of its own.
+fn try_over(
+    alloc: Global,
+    problem: &Problem,
+    order: &[u16],
+    budgets: Budgets,
+) -> Result<Tried, AllocError>
+    requires well_formed { IsProblem problem.now }
+    requires order { OfCases problem.now (λ c. IsOrder (bits_of_case c) order.now) }
+    requires steps { 1 ≤ budgets.steps }
+    ensures { IfOk result (λ tried. OfCases problem.entry.now (λ c. IsTried (IsFirstEvent (lists_over c (arranged order.now)) budgets.nodes budgets.steps) c tried)) }
+{
+    let bits = state_bits(problem);
+    let mut store = Store::new(alloc, 2 * u32::from(bits))?;
+    let rel = relations_over(alloc, problem, order, &mut store)?;
+    let outcome = search(alloc, &rel, &mut store, budgets.nodes, budgets.steps)?;
+    let tried = found_over(alloc, problem, order, &rel, &mut store, outcome, budgets)?;
+    Ok(tried)
+}
+
+// A try over the near order, where that is another one than the declared.
+fn try_near(
+    alloc: Global,
+    problem: &Problem,
+    declared: &[u16],
+    near: &[u16],
+    budgets: Budgets,
+    before: Tried,
+) -> Result<Tried, AllocError>
+    requires well_formed { IsProblem problem.now }
+    requires near { OfCases problem.now (λ c. IsOrder (bits_of_case c) near.now) }
+    requires steps { 1 ≤ budgets.steps }
+    requires before { OfCases problem.now (λ c. (nodes : ℕ) → is_out before ≡ false → IsTried (MayBeTold nodes budgets.steps c) c before) }
+    ensures tried { IfOk result (λ tried. OfCases problem.entry.now (λ c. (nodes : ℕ) → is_out tried ≡ false → IsTried (MayBeTold nodes budgets.steps c) c tried)) }
+    ensures counted { IfOk result (λ tried. is_out tried ≡ true → tried ≡ before) }
+{
+    if !is_out_of_nodes(&before) || near == declared {
+        return Ok(before);
+    }
+    let tried = try_over(alloc, problem, near, budgets)?;
+    if is_out_of_nodes(&tried) {
+        return Ok(before);
+    }
+    Ok(tried)
+}
+
+// Tries over the declared order and then over the near one, under a budget of nodes: what is found first that is not that this is passed, or else the count over the declared order.
+fn try_both(
+    alloc: Global,
+    problem: &Problem,
+    declared: &[u16],
+    near: &[u16],
+    budgets: Budgets,
+) -> Result<Tried, AllocError>
+    requires well_formed { IsProblem problem.now }
+    requires declared { OfCases problem.now (λ c. declared.now ≡ numbers_from 0 (bits_of_case c)) }
+    requires near { OfCases problem.now (λ c. IsOrder (bits_of_case c) near.now) }
+    requires steps { 1 ≤ budgets.steps }
+    ensures tried { IfOk result (λ tried. OfCases problem.entry.now (λ c. (nodes : ℕ) → is_out tried ≡ false → IsTried (MayBeTold nodes budgets.steps c) c tried)) }
+    ensures whole { IfOk result (λ tried. OfCases problem.entry.now (λ c. IsTried (MayBeTold budgets.nodes budgets.steps c) c tried)) }
+{
+    let first = try_over(alloc, problem, declared, budgets)?;
+    let tried = try_near(alloc, problem, declared, near, budgets, first)?;
+    Ok(tried)
+}
+
+/// What may be told of a problem: what a try finds first that is not that its budget of nodes is passed; else the count over the declared order under all nodes. The declared order is tried
+/// before the near one, both under a part of the nodes and then under all.
+pub(crate) fn tries(alloc: Global, problem: &Problem, budgets: Budgets) -> Result<Tried, AllocError>
+    requires well_formed { IsProblem problem.now }
+    requires steps { 1 ≤ budgets.steps }
+    ensures { IfOk result (λ tried. OfCases problem.entry.now (λ c. IsTried (MayBeTold budgets.nodes budgets.steps c) c tried)) }
+{
+    let declared = declared_order(alloc, problem)?;
+    let near = near_order(alloc, problem)?;
+    let part = budgets.nodes / PART;
+    if part > 0 {
+        let few = Budgets {
+            nodes: part,
+            steps: budgets.steps,
+        };
+        let tried = try_both(alloc, problem, declared.as_slice(), near.as_slice(), few)?;
+        if !is_out_of_nodes(&tried) {
+            return Ok(tried);
+        }
+    }
+    let tried = try_both(
+        alloc,
+        problem,
+        declared.as_slice(),
+        near.as_slice(),
+        budgets,
+    )?;
+    Ok(tried)
+}
