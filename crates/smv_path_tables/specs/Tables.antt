@@ -63,9 +63,9 @@ abbrev pub rows : ℕ → ℕ → ℕ → List (List (List ℕ)) → List (List 
 rows names width place states [] = []
 rows names width place states (element ∷ elements) = row names width place states element ++ rows names width (place + 1) states elements
 
--- as wide as the longest value, and as the number of the times
+-- as wide as the longest value, and as the last time
 abbrev pub width_of : List (List (List ℕ)) → ℕ
-width_of states = max (widest_value states) (length (decimal (length states)))
+width_of states = max (widest_value states) (length (decimal (length states - 1)))
 
 -- ` case #0, #1`
 abbrev pub case_lines : List (List ℕ) → List ℕ

@@ -40,5 +40,5 @@ fn digits(number: usize) -> usize
 pub(crate) fn width_of(states: &[Seq<Name>]) -> usize
     ensures { result ≡ spec.width_of states.now }
 {
-    widest_value(states).max(digits(states.len()))
+    widest_value(states).max(digits(states.len().saturating_sub(1)))
 }

@@ -20,6 +20,13 @@ const LONGER: &str =
 const LONGER_TABLES: &str =
     "p: false at 0\n   0\nq//l: false at 2\n case #0, *\n            0   1   2\n a          9  10   9\n long[#0]   0   .   1\n";
 
+// Ten times, the last of which has one digit.
+const TEN: &str =
+    "r: false at 9\n case #0\n time 0: x = 0\n time 1: x = 1\n time 2: x = 0\n time 3: x = 1\n time 4: x = 0\n time 5: x = 1\n time 6: x = 0\n time 7: x = 1\n time 8: x = 0\n time 9: x = 1\nproved 0 of 1\n";
+
+const TEN_TABLE: &str =
+    "r: false at 9\n case #0\n    0  1  2  3  4  5  6  7  8  9\n x  0  1  0  1  0  1  0  1  0  1\n";
+
 // The words, the report, the exit status, what is dumped and what is noted.
 pub type Row = (&'static str, &'static str, u8, &'static str, &'static str);
 
@@ -27,6 +34,7 @@ const ROWS: &[Row] = &[
     ("", REPORT, 0, DUMP, ""),
     ("table", REPORT, 0, TABLE, ""),
     ("table", LONGER, 0, LONGER_TABLES, ""),
+    ("table", TEN, 0, TEN_TABLE, ""),
     ("table", "proved 0 of 0\n", 1, "", "no false unit\n"),
     ("table", "x\n", 3, "", "fault 1 at line 1\n"),
     (
