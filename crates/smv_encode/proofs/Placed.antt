@@ -1,5 +1,5 @@
 -- The number that the bits of a case spell, by their places.
-use Rattle.std.proofs.Common.{◌≡◌, ℕ, suc, ◌+◌, ◌^◌, List, [], ◌∷◌, length, Bool, cond, refl, ap, ◌∙◌}
+use Rattle.std.proofs.Common.{◌≡◌, ℕ, suc, ◌+◌, ◌^◌, List, [], ◌∷◌, length, Bool, cond, refl, sym, ap, ◌∙◌}
 use Rattle.law_obligations.specs.Bits.{Bits}
 use Rattle.law_obligations.specs.Codes.{code_from}
 use Rattle.law_obligations.specs.Outlines.{place_of}
@@ -14,4 +14,4 @@ code_placed order next a bit [] placed = refl
 code_placed order next a bit (p ∷ places) placed =
     let s : Bits = bits_at next a in
     ap (λ (n : ℕ). cond (s p) (2 ^ length places) 0 + n) (code_placed order next a (suc bit) places placed.1)
-    ∙ ap (λ (b : Bool). cond b (2 ^ length places) 0 + code_from (spread order s) (suc bit) (length places)) (λ i. at_place s (placed.0 (~ i)))
+    ∙ ap (λ (b : Bool). cond b (2 ^ length places) 0 + code_from (spread order s) (suc bit) (length places)) (sym (ap (at_place s) placed.0))
