@@ -177,13 +177,12 @@ def uart(n):
     next(count) := count = {n} ? 0 : count + 1;
     if (count = {n}) next(busy) := 0;
   }}
-  for (i = 0; i < {n}; i = i + 1) {{
-    if (send & ~busy) {{
-      next(out[i]) := din[i];
-      next(kept[i]) := din[i];
-    }}
+  for (i = 0; i < {n - 1}; i = i + 1) {{
+    if (send & ~busy) next(out[i]) := din[i];
+    else if (busy & count > 0) next(out[i]) := out[i + 1];
   }}
-  for (i = 0; i < {n - 1}; i = i + 1) if (busy & count > 0) next(out[i]) := out[i + 1];
+  if (send & ~busy) next(out[{n - 1}]) := din[{n - 1}];
+  for (i = 0; i < {n}; i = i + 1) if (send & ~busy) next(kept[i]) := din[i];
   if (hears) {{
     for (i = 0; i < {n - 1}; i = i + 1) next(shifted[i]) := shifted[i + 1];
     next(shifted[{n - 1}]) := line;
