@@ -1,9 +1,9 @@
 -- A path of assignments that are the states of a violating path of a case's lists is read as a shortest violating path of its problem.
-use Rattle.std.proofs.Common.{◌≡◌, ℕ, zero, suc, ◌<◌, List, [], ◌∷◌, ◌++◌, map, length, get_or, Bool, refl, sym, ap, subst, ◌∙◌, inl, inr, arith}
+use Rattle.std.proofs.Common.{◌≡◌, ℕ, zero, suc, ◌+◌, ◌<◌, ◌≤◌, List, [], ◌∷◌, ◌++◌, map, length, get_or, take, Bool, refl, sym, ap, subst, ◌∙◌, inl, inr, arith}
 use Rattle.std.specs.List.{All}
 use Rattle.std.specs.Global.{Vec}
 use Rattle.std.proofs.lemmas.Bool.{cases_lt}
-use Rattle.std.proofs.lemmas.List.{length-append, get_or_append_left}
+use Rattle.std.proofs.lemmas.List.{length-append, get_or_append_left, take_more, take_all, map-append}
 use Rattle.std.proofs.lemmas.List.Elements.{All-weaker}
 use Rattle.std.proofs.Math.Seq.{get_or-append_seam}
 use Rattle.std.proofs.Math.ListN.{get_or-map}
@@ -31,6 +31,7 @@ use Rattle.smv_problem.specs.Written.{written_state}
 use Rattle.smv_problem.specs.WellFormed.{IsWellFormed, IsProblem, OfCases}
 use Rattle.smv_problem.specs.declared.problem.Problem.{Problem}
 use Rattle.smv_problem.specs.declared.problem.AbsState.{AbsState as StateData}
+use Rattle.smv_orders.specs.Places.{ArePlaces}
 use Rattle.smv_ring_paths.specs.BitPaths.{AreRings, state_of, states_of, by_time, HasBits, IsBitPath}
 
 -- ---- the rings of a search, one by one
@@ -106,7 +107,7 @@ pub have_bits : (p : Problem) → IsProblem p → (l : Lists) (order : List ℕ)
 have_bits p (c, is, well) l order lists n same states all = All-weaker (HasBits l.bits) (HasBits n) (λ state has. has ∙ bits_are l c order (lists c is well) ∙ sym same) states all
 
 -- so is what a call reads
-pub read_path : {E : Type 0} (p : Problem) (order : List ℕ) → OfCases p (λ c. IsOrder (state_bits c) order) → (l : Lists) → OfCases p (λ c. l ≡ lists_over c (arranged order)) → (n depth : ℕ) → n ≡ depth → (states : List (Vec Bool)) → IsBitPath l n states
+pub read_path : (p : Problem) (order : List ℕ) → OfCases p (λ c. IsOrder (state_bits c) order) → (l : Lists) → OfCases p (λ c. l ≡ lists_over c (arranged order)) → (n depth : ℕ) → n ≡ depth → (states : List (Vec Bool)) → IsBitPath l n states
     → ((k : ℕ) → k < depth → (path : ℕ → State) → IsViolating l k path → ⊥) → (told : List StateData) → OfCases p (λ c. told ≡ written_all c order states)
     → OfCases p (λ c. (path : List AbsState) × IsShortest c.problem depth path × (told ≡ map (written_state c) path))
 read_path p order orders l lists n depth same states bit_path none told read = λ c is well. short_path c well order (orders c is well) l (lists c is well) n depth same states bit_path none told (read c is well)
@@ -119,3 +120,19 @@ read_bits c order places bits values count each = reading_agree c (bit_at bits) 
 
 pub within_state : (places : List ℕ) (n : ℕ) → ((q : ℕ) → Has places q → q < length places) → n ≡ length places → (q : ℕ) → Has places q → q < n
 within_state places n below same q h = subst (λ (m : ℕ). q < m) (sym same) (below q h)
+
+-- ---- the states of a loop
+
+module _ (p : Problem) (places : List ℕ) (states : List (Vec Bool)) (i : ℕ) (path : List StateData) (before : OfCases p (λ c. (order : List ℕ) → ArePlaces order 0 places → path ≡ written_all c order (take i states))) where
+  -- one more is read
+  pub read_more : (state : Vec Bool) → i < length states → state ≡ get_or states i state → (shown : List Bool) → shown ≡ state.items → (one : StateData) (more : List StateData) → more ≡ path ++ one ∷ []
+      → OfCases p (λ c. (order : List ℕ) → ArePlaces order 0 places → one ≡ written_state c (reading c (spread order (bit_at shown)))) → OfCases p (λ c. (order : List ℕ) → ArePlaces order 0 places → more ≡ written_all c order (take (i + 1) states))
+  read_more state lt at shown same one more pushed read c is well order placed =
+      pushed
+      ∙ ap (λ (vs : List StateData). vs ++ one ∷ []) (before c is well order placed)
+      ∙ ap (λ (v : StateData). written_all c order (take i states) ++ v ∷ []) (read c is well order placed ∙ ap (λ (bs : List Bool). written_state c (reading c (spread order (bit_at bs)))) same)
+      ∙ sym (ap (written_all c order) (take_more states i state lt ∙ ap (λ (s : Vec Bool). take i states ++ s ∷ []) (sym at)) ∙ map-append (λ (s : Vec Bool). written_state c (reading c (spread order (state_of s)))) (take i states) (state ∷ []))
+
+  -- all are
+  pub read_whole : length states ≤ i → OfCases p (λ c. (order : List ℕ) → ArePlaces order 0 places → path ≡ written_all c order states)
+  read_whole le c is well order placed = before c is well order placed ∙ ap (written_all c order) (take_all i states le)

@@ -1,8 +1,6 @@
-use Rattle.std.proofs.Common.{◌≡◌, ◌∙◌, ap, sym, subst, List, Bool, length}
-use Rattle.law_obligations.specs.Bits.{Bits}
+use Rattle.std.proofs.Common.{◌∙◌, ap, List, Bool, length}
 use Rattle.law_obligations.specs.Readings.{reading}
 use Rattle.bdd_ops.specs.Functions.{bit_at}
-use Rattle.law_obligations.specs.May.{AbsState}
 use Rattle.smv_problem.specs.Written.{written_state}
 use Rattle.smv_trace.proofs.Paths.{read_bits}
 use Rattle.smv_trace.proofs.read_at.Goals as goal
