@@ -67,13 +67,13 @@ fn answers_1(rt: HostRuntime) -> Result<(), Fail> {
 
 const ROWS_2: &[Row] = &[
     (
-        "only opa//arch --nodes 200",
+        "only opa//arch --nodes 180",
         "scalarset WORD undefined; scalarset REG undefined; module main() { issue : boolean; src, dst : REG; reg : array REG of WORD; f : array WORD of WORD; opa, alu : WORD; ex : struct { valid : boolean; dst : REG; val : WORD; }; forall (w in WORD) next(f[w]) := f[w]; opa := ex.valid & ex.dst = src ? alu : reg[src]; init(ex.valid) := 0; next(ex.valid) := issue; next(ex.dst) := dst; next(ex.val) := opa; alu := f[ex.val]; if (ex.valid) next(reg[ex.dst]) := alu; abstract r : array REG of WORD; abstract operand, result, a, res : WORD; layer arch : { operand := r[src]; result := f[operand]; forall (k in REG) init(r[k]) := reg[k]; if (issue) next(r[dst]) := result; next(a) := operand; next(res) := result; if (issue) opa := operand; if (ex.valid) alu := res; } forall (j in REG) forall (c in WORD) subcase opa1[j][c] of opa//arch for src = j, r[src] = c; using alu//arch prove opa1; forall (v in WORD) forall (c in WORD) subcase alu1[v][c] of alu//arch for a = v, res = c; using opa//arch prove alu1; }",
         2,
         "opa//arch: unknown nodes 220\n case #0, #0\nproved 0 of 1\n",
     ),
     (
-        "only opa//arch --nodes 200",
+        "only opa//arch --nodes 180",
         "scalarset WORD undefined; scalarset REG undefined; module main() { issue : boolean; src, dst : REG; reg : array REG of WORD; f : array WORD of WORD; opa, alu : WORD; ex : struct { valid : boolean; dst : REG; val : WORD; }; forall (w in WORD) next(f[w]) := f[w]; opa := ex.valid & ex.dst = src ? alu : reg[src]; init(ex.valid) := 0; next(ex.valid) := issue; next(ex.dst) := dst; next(ex.val) := opa; alu := f[ex.val]; if (ex.valid) next(reg[ex.dst]) := alu; abstract r : array REG of WORD; abstract operand, result, a, res : WORD; layer arch : { operand := r[src]; result := f[operand]; forall (k in REG) init(r[k]) := reg[k]; if (issue) next(r[dst]) := result; next(a) := operand; next(res) := result; if (issue) opa := operand; if (ex.valid) alu := res; } forall (j in REG) forall (c in WORD) subcase opa1[j][c] of opa//arch for src = j, r[src] = c; using alu//arch, result//free prove opa1; forall (v in WORD) forall (c in WORD) subcase alu1[v][c] of alu//arch for a = v, res = c; using opa//arch, operand//free prove alu1; }",
         8,
         "opa//arch: true\nproved 1 of 1\n",
