@@ -1,5 +1,5 @@
 // What expressions read: which elements decide, which are compared, and of which a value is made.
-use crate::reader::{Read, Reader, Role};
+use crate::reader::{Read, Reader};
 use smv_core::flat::{FlatExpr, FlatMember, FlatSigned, Simple};
 use smv_problem_spots::places::{named_over, rests_over};
 use smv_spots::spots::Spot;
@@ -107,29 +107,52 @@ pub(crate) fn read_value(
         return Ok(());
     }
     match e {
-        FlatExpr::Number { .. } => Ok(()),
         FlatExpr::Read {
             family,
             indexes,
             ..
         } => read_reference(reader, *family, indexes.as_slice(), reads),
-        FlatExpr::Var { .. } => Ok(()),
-        FlatExpr::Loop { .. } => Ok(()),
-        FlatExpr::Constant { .. } => Ok(()),
-        FlatExpr::Not { of, .. } => read_condition(reader, of.get()),
-        FlatExpr::And { parts } => read_conditions(reader, parts.as_slice()),
-        FlatExpr::Or { parts } => read_conditions(reader, parts.as_slice()),
-        FlatExpr::Implies { parts } => read_conditions(reader, parts.as_slice()),
-        FlatExpr::Iff { left, right } => read_meeting(reader, left.get(), right.get()),
-        FlatExpr::Compare { left, right, .. } => read_meeting(reader, left.get(), right.get()),
-        FlatExpr::Within { left, set } => read_meeting(reader, left.get(), set.get()),
         FlatExpr::Sum { first, more } => {
             read_value(reader, first.get(), reads)?;
             read_terms(reader, more.as_slice(), reads)
         }
         FlatExpr::Modulo { of, .. } => read_value(reader, of.get(), reads),
         FlatExpr::Choose { cond, yes, no } => {
-            read_choice(reader, cond.get(), yes.get(), no.get(), reads)
+            if let Some(read) = weighted(reader, cond.get(), yes.get(), no.get())? {
+                reads.push(read)?;
+                return Ok(());
+            }
+            read_condition(reader, cond.get())?;
+            read_value(reader, yes.get(), reads)?;
+            read_value(reader, no.get(), reads)
+        }
+        FlatExpr::List { members, .. } => read_members(reader, members.as_slice(), reads),
+        _ => read_truth(reader, e),
+    }
+}
+
+// An expression that makes a truth value: all that it reads is compared or decides.
+#[cycle(expressions)]
+fn read_truth(reader: &mut Reader, e: &FlatExpr) -> Result<(), AllocError> {
+    match e {
+        FlatExpr::Not { of, .. } => read_condition(reader, of.get()),
+        FlatExpr::And { parts } => read_conditions(reader, parts.as_slice()),
+        FlatExpr::Or { parts } => read_conditions(reader, parts.as_slice()),
+        FlatExpr::Implies { parts } => read_conditions(reader, parts.as_slice()),
+        FlatExpr::Iff { left, right } => {
+            let one = read_apart(reader, left.get())?;
+            let other = read_apart(reader, right.get())?;
+            reader.meet(one, other)
+        }
+        FlatExpr::Compare { left, right, .. } => {
+            let one = read_apart(reader, left.get())?;
+            let other = read_apart(reader, right.get())?;
+            reader.meet(one, other)
+        }
+        FlatExpr::Within { left, set } => {
+            let one = read_apart(reader, left.get())?;
+            let other = read_apart(reader, set.get())?;
+            reader.meet(one, other)
         }
         FlatExpr::All {
             body,
@@ -143,24 +166,28 @@ pub(crate) fn read_value(
             over,
             ..
         } => read_turns(reader, *var, *over, body.get()),
-        FlatExpr::List { members, .. } => read_members(reader, members.as_slice(), reads),
         FlatExpr::Each {
             var,
             over,
-            cond,
+            cond: Some(cond),
             ..
-        } => match cond {
-            Some(cond) => read_turns(reader, *var, *over, cond.get()),
-            None => Ok(()),
-        },
+        } => read_turns(reader, *var, *over, cond.get()),
+        _ => Ok(()),
     }
+}
+
+// What the value of an expression is made of, by itself.
+#[cycle(expressions)]
+fn read_apart(reader: &mut Reader, e: &FlatExpr) -> Result<Vec<Read>, AllocError> {
+    let mut reads = Vec::new(reader.alloc);
+    read_value(reader, e, &mut reads)?;
+    Ok(reads)
 }
 
 /// Puts down an expression whose value decides.
 #[cycle(expressions)]
 pub(crate) fn read_condition(reader: &mut Reader, e: &FlatExpr) -> Result<(), AllocError> {
-    let mut reads = Vec::new(reader.alloc);
-    read_value(reader, e, &mut reads)?;
+    let reads = read_apart(reader, e)?;
     reader.decide(reads.as_slice())
 }
 
@@ -170,15 +197,6 @@ fn read_conditions(reader: &mut Reader, parts: &[FlatExpr]) -> Result<(), AllocE
         read_condition(reader, part)?;
     }
     Ok(())
-}
-
-// Two values that are compared.
-#[cycle(expressions)]
-fn read_meeting(reader: &mut Reader, left: &FlatExpr, right: &FlatExpr) -> Result<(), AllocError> {
-    let mut reads = Vec::new(reader.alloc);
-    read_value(reader, left, &mut reads)?;
-    read_value(reader, right, &mut reads)?;
-    reader.put(Role::Meets, reads)
 }
 
 #[cycle(expressions)]
@@ -206,27 +224,6 @@ fn read_members(
         }
     }
     Ok(())
-}
-
-#[cycle(expressions)]
-fn read_choice(
-    reader: &mut Reader,
-    cond: &FlatExpr,
-    yes: &FlatExpr,
-    no: &FlatExpr,
-    reads: &mut Vec<Read>,
-) -> Result<(), AllocError> {
-    match weighted(reader, cond, yes, no)? {
-        Some(read) => {
-            reads.push(read)?;
-            Ok(())
-        }
-        None => {
-            read_condition(reader, cond)?;
-            read_value(reader, yes, reads)?;
-            read_value(reader, no, reads)
-        }
-    }
 }
 
 // The body of a quantifier, at each value of its variable.

@@ -111,6 +111,17 @@ fn spot_of(number: i64) -> Option<Spot> {
     }
 }
 
+// A sum or a difference of numbers that are known.
+fn added(minus: bool, left: Option<i64>, right: Option<i64>) -> Option<i64> {
+    let left = left?;
+    let right = right?;
+    if minus {
+        Some(left.saturating_sub(right))
+    } else {
+        Some(left.saturating_add(right))
+    }
+}
+
 impl<'a> Reader<'a> {
     /// Whether one step more is left.
     pub(crate) fn goes_on(&mut self) -> bool {
@@ -160,7 +171,7 @@ impl<'a> Reader<'a> {
                 Some(Spot::Number { value }) => Some(i64::from(value)),
                 _ => None,
             },
-            FlatExpr::Sum { first, more } => self.sum(first.get(), more.as_slice()),
+            FlatExpr::Sum { first, more } => self.sum(self.number(first.get()), more.as_slice()),
             FlatExpr::Modulo { of, by, .. } => {
                 let number = self.number(of.get())?;
                 number.checked_rem_euclid(i64::from(*by))
@@ -169,19 +180,14 @@ impl<'a> Reader<'a> {
         }
     }
 
-    // A sum of such numbers.
+    // A number and such numbers.
     #[cycle(numbers)]
-    fn sum(&self, first: &FlatExpr, more: &[FlatSigned]) -> Option<i64> {
-        let mut sum = self.number(first)?;
+    fn sum(&self, first: Option<i64>, more: &[FlatSigned]) -> Option<i64> {
+        let mut sum = first;
         for signed in more {
-            let number = self.number(&signed.of)?;
-            sum = if signed.minus {
-                sum.saturating_sub(number)
-            } else {
-                sum.saturating_add(number)
-            };
+            sum = added(signed.minus, sum, self.number(&signed.of));
         }
-        Some(sum)
+        sum
     }
 
     /// Where an index is known to be.
@@ -210,6 +216,13 @@ impl<'a> Reader<'a> {
             })?;
         }
         Ok(())
+    }
+
+    /// Puts down that what one value and another are made of is compared.
+    pub(crate) fn meet(&mut self, one: Vec<Read>, other: Vec<Read>) -> Result<(), AllocError> {
+        let mut both = one;
+        both.extend_from_slice(other.as_slice())?;
+        self.put(Role::Meets, both)
     }
 
     /// Puts down that each of these elements decides.
