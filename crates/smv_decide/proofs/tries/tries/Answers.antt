@@ -1,4 +1,4 @@
-use Rattle.std.proofs.Common.{ℕ, List, sym, subst, ◌∙◌}
+use Rattle.std.proofs.Common.{sym, subst, ◌∙◌}
 use Rattle.law_obligations.specs.Readings.{state_bits}
 use Rattle.law_arrangements.specs.Orders.{IsOrder}
 use Rattle.smv_decide.proofs.tries.tries.Goals as goal
