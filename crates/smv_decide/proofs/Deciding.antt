@@ -25,7 +25,7 @@ use Rattle.law_arrangements.specs.Orders.{arranged, IsOrder}
 use Rattle.law_arrangements.specs.ArrangedLists.{lists_over}
 use Rattle.law_arrangements.proofs.OrderLaws.{declared_order}
 use Rattle.law_arrangements.proofs.Declared.{declared_is_today}
-use Rattle.smv_problem.specs.WellFormed.{IsWellFormed, OfCases}
+use Rattle.smv_problem.specs.WellFormed.{OfCases}
 use Rattle.smv_decide.specs.Decisions.{IsFound}
 
 -- the lists are the same after the search

@@ -2,22 +2,19 @@
 use Rattle.std.proofs.Common.{◌≡◌, ℕ, List, true, false, refl, sym, ap, subst, ◌∙◌}
 use Rattle.smv_core.specs.Values.{numbers_from}
 use Rattle.smv_rings.specs.Lists.{Lists}
-use Rattle.law_events.specs.Events.{Event, IsFirstEvent}
+use Rattle.law_events.specs.Events.{IsFirstEvent}
 use Rattle.law_events.specs.Events.Event.{Counted, Reached, Shut, Images}
 use Rattle.law_obligations.specs.Readings.{PosedCase, state_bits}
 use Rattle.law_reports.specs.CaseLists.{case_lists}
 use Rattle.law_reports.specs.Verdicts.{MayBeTold}
-use Rattle.law_reports.specs.Reports.{IsShown}
 use Rattle.law_arrangements.specs.Orders.{arranged, IsOrder}
 use Rattle.law_arrangements.specs.ArrangedLists.{lists_over}
 use Rattle.law_arrangements.proofs.OrderLaws.{order_arranges, declared_order}
 use Rattle.law_arrangements.proofs.Declared.{declared_is_today}
 use Rattle.law_arrangements.proofs.Telling.{tries_may_be_told, declared_may_be_told}
 use Rattle.smv_problem.specs.declared.problem.Problem.{Problem}
-use Rattle.smv_problem.specs.Written.{written}
 use Rattle.smv_problem.specs.WellFormed.{IsWellFormed, OfCases}
 use Rattle.smv_bits.specs.declared.Bits.TheVariants.{Near}
-use Rattle.smv_decide.specs.declared.Decision.{Decision}
 use Rattle.smv_decide.specs.declared.Decision.TheVariants as decided
 use Rattle.smv_decide.specs.declared.tries.Tried.{Tried}
 use Rattle.smv_decide.specs.declared.tries.Tried.TheVariants.{Safe, Broken, OutOfNodes, OutOfSteps}

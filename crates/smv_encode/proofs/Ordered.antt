@@ -1,8 +1,8 @@
 -- What a problem's order is asked for, and what the declared one is.
-use Rattle.std.proofs.Common.{◌≡◌, ℕ, ◌*◌, ◌<◌, ◌≤◌, List, length, sym, ap, subst, ◌∙◌, arith}
+use Rattle.std.proofs.Common.{◌≡◌, ℕ, ◌*◌, ◌<◌, List, length, sym, ap, subst, ◌∙◌, arith}
 use Rattle.smv_core.specs.Values.{numbers_from}
 use Rattle.law_obligations.specs.Sets.{Has}
-use Rattle.law_obligations.specs.Readings.{PosedCase, state_bits}
+use Rattle.law_obligations.specs.Readings.{state_bits}
 use Rattle.law_arrangements.specs.Orders.{arranged, IsOrder}
 use Rattle.law_arrangements.specs.ArrangedLists.{lists_over}
 use Rattle.law_arrangements.proofs.Declared.{declared_is_today}

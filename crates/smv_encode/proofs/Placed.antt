@@ -2,7 +2,6 @@
 use Rattle.std.proofs.Common.{◌≡◌, ℕ, suc, ◌+◌, ◌^◌, List, [], ◌∷◌, length, Bool, cond, refl, sym, ap, ◌∙◌}
 use Rattle.law_obligations.specs.Bits.{Bits}
 use Rattle.law_obligations.specs.Codes.{code_from}
-use Rattle.law_obligations.specs.Outlines.{place_of}
 use Rattle.law_arrangements.specs.Arrangements.{at_place, spread}
 use Rattle.bdd_codes.specs.Codes.{bits_at, code_at}
 use Rattle.smv_orders.specs.Places.{ArePlaces}

@@ -8,10 +8,10 @@ use Rattle.smv_decide.proofs.Deciding.{reached_in, shown_by, order_declared, lis
 use Rattle.smv_decide.proofs.tell.Goals as goal
 
 pub path-requires-clause-order : goal.path-requires-clause-order
-path-requires-clause-order c = order_declared c.args.problem c.in_ok-order.order.items c.as_slice-order.result.now c.as_slice-order.ensures.value c.in_ok-order.ensures
+path-requires-clause-order c = order_declared c.args.problem c.in_ok-order-in-Reaches.order.items c.as_slice-order.result.now c.as_slice-order.ensures.value c.in_ok-order-in-Reaches.ensures
 
 pub path-requires-clause-lists : goal.path-requires-clause-lists
-path-requires-clause-lists c = lists_declared c.args.problem (lists_of c.args.store.now c.args.rel.now) c.in_ok-order.order.items c.as_slice-order.result.now c.as_slice-order.ensures.value c.in_ok-order.ensures c.requires.lists
+path-requires-clause-lists c = lists_declared c.args.problem (lists_of c.args.store.now c.args.rel.now) c.in_ok-order-in-Reaches.order.items c.as_slice-order.result.now c.as_slice-order.ensures.value c.in_ok-order-in-Reaches.ensures c.requires.lists
 
 pub returns-in_ok-states-in-Reaches-clause-decided : goal.returns-in_ok-states-in-Reaches-clause-decided
 returns-in_ok-states-in-Reaches-clause-decided c = λ case e well.

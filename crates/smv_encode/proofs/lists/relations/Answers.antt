@@ -1,4 +1,3 @@
-use Rattle.bdd_store.specs.Diagram.{Diagram}
 use Rattle.smv_rings.specs.Lists.{lists_of}
 use Rattle.smv_encode.proofs.Ordered.{declared_orders, declared_lists}
 use Rattle.smv_encode.proofs.lists.relations.Goals as goal

@@ -1,4 +1,4 @@
-use Rattle.std.proofs.Common.{◌≡◌, length, List, ℕ, sym, subst, ap, ◌∙◌}
+use Rattle.std.proofs.Common.{length, List, ℕ, sym, subst, ap, ◌∙◌}
 use Rattle.smv_orders.specs.Places.{ArePlaces}
 use Rattle.smv_orders.proofs.Orders.{order_few, order_whole, places_counted}
 use Rattle.smv_encode.proofs.Ordered.{places_within}
