@@ -9,7 +9,7 @@ use Rattle.smv_problem.specs.declared.report.Verdict.{Verdict}
 use Rattle.smv_problem.specs.declared.report.Verdict.TheVariants as verdict
 use Rattle.smv_problem.specs.declared.report.UnitResult.{UnitResult}
 use Rattle.smv_problem.specs.declared.report.Report.{Report}
-use Rattle.law_reports.specs.Verdicts.{LeafVerdict, all_true, fails, AreOne, AreOneEach}
+use Rattle.law_reports.specs.Verdicts.{LeafVerdict, all_true, AreOne, AreOneEach}
 use Rattle.law_reports.specs.Reports.{AllTrueUnits, told, told_of}
 use Rattle.smv_command.specs.declared.exit.Status.{Status}
 use Rattle.smv_command.specs.declared.exit.Status.TheVariants as status
