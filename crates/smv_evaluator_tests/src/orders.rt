@@ -127,8 +127,8 @@ const ORDERS: &[(&str, usize, usize, &str)] = &[
     (LOOKED_UP, 0, 0, "i.0 z=0.1 z=0.0 z=1.1 z=1.0 o.1 o.0"),
     // A variable alone in a left side has the element's own index.
     (OWN, 0, 0, "y#0.0 x#0.0"),
-    // What a map says meets the signal of which it says it.
-    (MAPPED, 0, 0, "c.0 a.0 x.0"),
+    // What a map says meets the signal of which it says it, and that is a wire behind what it is.
+    (MAPPED, 0, 0, "a.0 c.0 x.0"),
 ];
 
 // Fails with the first text of which a case has another order.
