@@ -31,7 +31,7 @@ MayBeTold nodes steps c (Reached k) = (path : List AbsState) × IsShortest c.pro
 MayBeTold nodes steps c (Counted n) = IsFirstEvent (case_lists c) nodes steps (Counted n)
 MayBeTold nodes steps c Images = IsSpent c steps
 
--- the verdict of a case for budgets of nodes and of steps, which are images that a search makes: over the declared bits what a search over its lists finds first
+-- the verdict of a case for budgets of nodes and of steps, which are images that a search makes: over the declared bits what a search over its lists finds first, over near bits what may be told
 abbrev pub IsCaseVerdict : Bits → ℕ → ℕ → PosedCase → Event → Type 0
 IsCaseVerdict Declared nodes steps c v = IsFirstEvent (case_lists c) nodes steps v
 IsCaseVerdict Near nodes steps c v = MayBeTold nodes steps c v

@@ -1,6 +1,8 @@
 -- Orders of bits, and the places of these.
-use Rattle.std.proofs.Common.{◌≡◌, ℕ, zero, suc, ◌+◌, ◌<◌, ◌≤◌, List, [], ◌∷◌, ◌++◌, length, get_or, Bool, true, false, refl, sym, ap, subst, ◌∙◌, Option, Some, nat_eq, if◌then◌else◌, arith}
-use Rattle.std.specs.Prelude.{option_map}
+use Rattle.std.proofs.Common.{◌≡◌, ℕ, zero, suc, ◌+◌, ◌<◌, ◌≤◌, List, [], ◌∷◌, ◌++◌, length, get_or, set, Bool, true, false, refl, sym, ap, subst, ◌∙◌, Option, Some, nat_eq, arith}
+use Rattle.std.specs.Option.{unwrap_or}
+use Rattle.std.proofs.lemmas.List.{get_or-set_other}
+use Rattle.std.proofs.lemmas.Grind.{get_or-set_at}
 use Rattle.std.proofs.lemmas.Bool.Decides.{nat_tests}
 use Rattle.smv_core.specs.Values.{numbers_from}
 use Rattle.law_obligations.specs.Sets.{Has, first, later}
@@ -9,7 +11,7 @@ use Rattle.law_obligations.specs.Outlines.{place_of}
 use Rattle.law_obligations.specs.Readings.{state_bits}
 use Rattle.law_arrangements.specs.Arrangements.{at_place, spread}
 use Rattle.law_arrangements.specs.Orders.{IsOrder}
-use Rattle.law_arrangements.proofs.OrderLaws.{order_long, order_has}
+use Rattle.law_arrangements.proofs.OrderLaws.{order_long, order_has, places_own}
 use Rattle.smv_problem.specs.declared.problem.Problem.{Problem}
 use Rattle.smv_problem.specs.WellFormed.{IsProblem, OfCases}
 use Rattle.smv_readings.proofs.Counts.{bits-of-cases, bits-few}
@@ -17,26 +19,7 @@ use Rattle.smv_orders.specs.Places.{ArePlaces}
 
 -- ---- the place of a bit
 
-found_first : (x : Bool) (o : Option ℕ) → x ≡ true → (if x then Some 0 else o) ≡ Some 0
-found_first x o e = ap (λ (b : Bool). if b then Some 0 else o) e
-
-found_later : (x : Bool) (o : Option ℕ) → x ≡ false → (if x then Some 0 else o) ≡ o
-found_later x o e = ap (λ (b : Bool). if b then Some 0 else o) e
-
-is_same : (n m : ℕ) → m ≡ n → nat_eq n m ≡ true
-is_same n m e = grind (arith, nat_tests)
-
-is_other : (n m : ℕ) → (m ≡ n → ⊥) → nat_eq n m ≡ false
-is_other n m apart = grind (arith, nat_tests)
-
--- where a bit stands for the first time
-pub place_found : (order : List ℕ) (bit i : ℕ) → i < length order → get_or order i 0 ≡ bit → ((j : ℕ) → j < i → get_or order j 0 ≡ bit → ⊥) → place_of (nat_eq bit) order ≡ Some i
-place_found [] bit i lt at before = absurd (omega arith)
-place_found (x ∷ order) bit zero lt at before = found_first (nat_eq bit x) (option_map (λ k. suc k) (place_of (nat_eq bit) order)) (is_same bit x at)
-place_found (x ∷ order) bit (suc i) lt at before =
-    found_later (nat_eq bit x) (option_map (λ k. suc k) (place_of (nat_eq bit) order)) (is_other bit x (before 0 (omega arith)))
-    ∙ ap (option_map (λ k. suc k)) (place_found order bit i (omega arith) at (λ j below. before (suc j) (omega arith)))
-
+-- where a bit stands
 pub has_index : (order : List ℕ) (bit : ℕ) → Has order bit → (i : ℕ) × (i < length order) × (get_or order i 0 ≡ bit)
 has_index [] bit h = elim h [ ]
 has_index (x ∷ order) _ first = (0, omega arith, refl)
@@ -46,20 +29,67 @@ has_index (x ∷ order) bit (later h) = let r = has_index order bit h in let lt 
 pub bit_has : (order : List ℕ) → IsOrder (length order) order → (b : ℕ) → b < length order → Has order b
 bit_has order is b lt = order_has (length order) order is b lt
 
--- ---- places one after the other
+-- ---- the places of all bits, written bit by bit of the order
 
--- one place more
-pub places_pushed : (order : List ℕ) (bit : ℕ) (places : List ℕ) (p : ℕ) → ArePlaces order bit places → place_of (nat_eq (bit + length places)) order ≡ Some p → ArePlaces order bit (places ++ p ∷ [])
-places_pushed order bit [] p are is = let same : bit + 0 ≡ bit = omega arith in (subst (λ (b : ℕ). place_of (nat_eq b) order ≡ Some p) same is, tt)
-places_pushed order bit (q ∷ places) p are is =
-    let same : bit + suc (length places) ≡ suc bit + length places = omega arith in
-    (are.0, places_pushed order (suc bit) places p are.1 (subst (λ (b : ℕ). place_of (nat_eq b) order ≡ Some p) same is))
+-- each bit has the place that is listed for it
+all_placed : (order : List ℕ) (bit : ℕ) (places : List ℕ) → ((b : ℕ) → b < length places → place_of (nat_eq (bit + b)) order ≡ Some (get_or places b 0)) → ArePlaces order bit places
+all_placed order bit [] each = tt
+all_placed order bit (p ∷ places) each =
+    let same : bit + 0 ≡ bit = omega arith in (
+      subst (λ (n : ℕ). place_of (nat_eq n) order ≡ Some p) same (each 0 (omega arith)),
+      all_placed order (suc bit) places (λ b lt. let next : bit + suc b ≡ suc bit + b = omega arith in subst (λ (n : ℕ). place_of (nat_eq n) order ≡ Some (get_or places b 0)) next (each (suc b) (omega (arith, lt)))),
+    )
 
-pub below_pushed : (n : ℕ) (places : List ℕ) (p : ℕ) → ((q : ℕ) → Has places q → q < n) → p < n → (q : ℕ) → Has (places ++ p ∷ []) q → q < n
-below_pushed n [] p all lt _ first = lt
-below_pushed n [] p all lt q (later h) = elim h [ ]
-below_pushed n (x ∷ places) p all lt _ first = all x first
-below_pushed n (x ∷ places) p all lt q (later h) = below_pushed n places p (λ r m. all r (later m)) lt q h
+some_alike : (j k : ℕ) → Some j ≡ Some k → j ≡ k
+some_alike j k e = ap (λ (o : Option ℕ). unwrap_or o 0) e
+
+-- the bits of an order stand at these places so far
+abbrev pub Stand : List ℕ → ℕ → List ℕ → Type 0
+Stand order count places = (j : ℕ) → j < count → get_or places (get_or order j 0) 0 ≡ j
+
+module _ (order : List ℕ) (is : IsOrder (length order) order) where
+  -- a bit stands at one place alone
+  one_place : (j k : ℕ) → j < length order → k < length order → get_or order j 0 ≡ get_or order k 0 → j ≡ k
+  one_place j k lt below same =
+      some_alike j k (sym (places_own (length order) order is j lt).1 ∙ ap (λ (bit : ℕ). place_of (nat_eq bit) order) same ∙ (places_own (length order) order is k below).1)
+
+  pub bit_within : (k : ℕ) → k < length order → get_or order k 0 < length order
+  bit_within k lt = (places_own (length order) order is k lt).0
+
+  -- one place more
+  pub stand_next : (places : List ℕ) (place : ℕ) → length places ≡ length order → place < length order → Stand order place places → Stand order (place + 1) (set places (get_or order place 0) place)
+  stand_next places place long lt stand j below = stand_case (nat_eq j place) refl
+    where
+      stand_case : (same : Bool) → nat_eq j place ≡ same → get_or (set places (get_or order place 0) place) (get_or order j 0) 0 ≡ j
+      stand_case true e =
+          let at : j ≡ place = grind (arith, nat_tests) in
+          let there = bit_within place lt in
+          get_or-set_at places (get_or order place 0) (get_or order j 0) place 0 (ap (λ (k : ℕ). get_or order k 0) at) (omega (arith, there, long)) ∙ sym at
+      stand_case false e =
+          let apart : j ≡ place → ⊥ = grind (arith, nat_tests) in
+          let before : j < place = omega (arith, below, apart) in
+          get_or-set_other places (get_or order place 0) (get_or order j 0) place 0 (λ same. apart (one_place j place (omega (arith, before, lt)) lt same)) ∙ stand j before
+
+  module _ (places : List ℕ) (long : length places ≡ length order) (stand : Stand order (length order) places) where
+    -- each bit has its place
+    each_place : (b : ℕ) → b < length places → (place_of (nat_eq b) order ≡ Some (get_or places b 0)) × (get_or places b 0 < length order)
+    each_place b lt =
+        let found = has_index order b (bit_has order is b (omega (arith, lt, long))) in
+        let i : ℕ = found.0 in
+        let at : get_or order i 0 ≡ b = found.2 in
+        let here : get_or places b 0 ≡ i = ap (λ (n : ℕ). get_or places n 0) (sym at) ∙ stand i found.1 in
+        let below : i < length order = found.1 in
+        (ap (λ (n : ℕ). place_of (nat_eq n) order) (sym at) ∙ (places_own (length order) order is i found.1).1 ∙ ap Some (sym here), omega (arith, here, below))
+
+    pub are_placed : ArePlaces order 0 places
+    are_placed = all_placed order 0 places (λ b lt. let same : 0 + b ≡ b = omega arith in subst (λ (n : ℕ). place_of (nat_eq n) order ≡ Some (get_or places b 0)) (sym same) (each_place b lt).0)
+
+    pub are_within : (p : ℕ) → Has places p → p < length order
+    are_within p h =
+        let found = has_index places p h in
+        let at : get_or places found.0 0 ≡ p = found.2 in
+        let below = (each_place found.0 found.1).1 in
+        omega (arith, at, below)
 
 -- the place of some bits, and of those behind them
 pub places_apart : (order : List ℕ) (bit : ℕ) (own behind : List ℕ) → ArePlaces order bit (own ++ behind) → ArePlaces order bit own × ArePlaces order (bit + length own) behind

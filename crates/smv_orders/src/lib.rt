@@ -4,11 +4,10 @@
 //! `specs/Places` which places the bits have in one.
 #![tactic(auto)]
 
-ghost use Rattle.std.specs.Prelude.{◌≡◌, ◌<◌, ◌≤◌, ℕ, List, length, Some, nat_eq, IfOk};
+ghost use Rattle.std.specs.Prelude.{◌≡◌, ◌<◌, ◌≤◌, ℕ, List, length, IfOk};
 ghost use Rattle.smv_core.specs.Values.{numbers_from};
 ghost use Rattle.bdd_ops.specs.Functions.{bit_at};
 ghost use Rattle.law_obligations.specs.Sets.{Has};
-ghost use Rattle.law_obligations.specs.Outlines.{place_of as place_of_first};
 ghost use Rattle.law_obligations.specs.Readings.{state_bits as bits_of_case};
 ghost use Rattle.law_arrangements.specs.Arrangements.{spread};
 ghost use Rattle.law_arrangements.specs.Orders.{IsOrder};
@@ -29,8 +28,8 @@ pub fn declared_order(alloc: Global, problem: &Problem) -> Result<Vec<u16>, Allo
     Ok(order)
 }
 
-// So many numbers from 0 on.
-fn first_numbers(alloc: Global, count: u16) -> Result<Vec<u16>, AllocError>
+/// So many numbers from 0 on.
+pub fn first_numbers(alloc: Global, count: u16) -> Result<Vec<u16>, AllocError>
     ensures { IfOk result (λ numbers. numbers.items ≡ numbers_from 0 count) }
 {
     let mut numbers = Vec::new(alloc);
@@ -38,21 +37,6 @@ fn first_numbers(alloc: Global, count: u16) -> Result<Vec<u16>, AllocError>
         numbers.push(number)?;
     }
     Ok(numbers)
-}
-
-// The place of a bit that stands in an order.
-fn place_of(order: &[u16], bit: u16) -> u16
-    requires few { length order.now ≤ 65535 }
-    requires has { Has order.now bit }
-    ensures is { place_of_first (nat_eq bit) order.now ≡ Some result }
-    ensures within { result < length order.now }
-{
-    for place in 0..order.len() {
-        if order[place] == bit {
-            return place as u16;
-        }
-    }
-    0
 }
 
 /// The place of each bit in an order, bit by bit.
@@ -63,9 +47,9 @@ pub fn places_in(alloc: Global, order: &[u16]) -> Result<Vec<u16>, AllocError>
     ensures are { IfOk result (λ places. ArePlaces order.now 0 places.items) }
     ensures within { IfOk result (λ places. (p : ℕ) → Has places.items p → p < length order.now) }
 {
-    let mut places = Vec::new(alloc);
-    for bit in 0..order.len() {
-        places.push(place_of(order, bit as u16))?;
+    let mut places = vec![in alloc; 0; order.len()]?;
+    for place in 0..order.len() {
+        places[usize::from(order[place])] = place as u16;
     }
     Ok(places)
 }

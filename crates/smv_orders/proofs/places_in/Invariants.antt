@@ -1,11 +1,9 @@
-use Rattle.std.proofs.Common.{◌≡◌, ℕ, ◌<◌, length}
-use Rattle.law_obligations.specs.Sets.{Has}
-use Rattle.smv_orders.specs.Places.{ArePlaces}
+use Rattle.std.proofs.Common.{◌≡◌, length}
+use Rattle.smv_orders.proofs.Orders.{Stand}
 use Rattle.smv_orders.proofs.places_in.Given as goal
 
-abbrev pub invariant-loop-bit : goal.invariant-loop-bit
-invariant-loop-bit l = record {
-  count : length l.places.items ≡ l.bit;
-  are : ArePlaces l.order 0 l.places.items;
-  within : (p : ℕ) → Has l.places.items p → p < length l.order;
+abbrev pub invariant-loop-place : goal.invariant-loop-place
+invariant-loop-place l = record {
+  count : length l.places.items ≡ length l.order;
+  stand : Stand l.order l.place l.places.items;
 }
