@@ -7,7 +7,7 @@ A design has one or two undeclared set types (scalarsets, ordsets), signals and 
 names, with sets and comprehensions), maybe a layer with an abstract signal and a map, claims with parameters, splits and uses. All its states at the given sizes are gone through from the definitions of the
 language alone. What is looked at:
 
-- `confirm`: the status, the case and the time of each unit at each of some sizes; the path has to be the part of a run, which breaks that instance at its last time; another number of sizes is fault 34;
+- `confirm`, over bits of either kind: the status, the case and the time of each unit at each of some sizes; the path has to be the part of a run, which breaks that instance at its last time; another number of sizes is fault 34;
 - `prove`: a design of which all is true holds at these sizes;
 - `proof`: the answer of `prove` where not all is true; otherwise a document that `check` takes, with a set for each case, and that `resume --steps 1` gives again, also behind a comment;
 - documents with something changed: `check` takes none whose design is broken at some of the sizes, and `resume` answers as `prove` does.
@@ -444,8 +444,9 @@ def confirmed(program, design, text, sizes, found, counts):
     """Compares `confirm` with what was found for each unit at these sizes."""
     given = [str(sizes[name]) for name in design.types]
     for unit, over, _ in design.units:
-        status, answer = program(text, "confirm", unit, *given)
-        told = text, f"confirm {unit} {' '.join(given)}", f"found {found[unit]}", f"status {status}", answer
+        words = [unit, *given, "--bits", random.choice(("near", "declared"))]
+        status, answer = program(text, "confirm", *words)
+        told = text, f"confirm {' '.join(words)}", f"found {found[unit]}", f"status {status}", answer
         if found[unit] is None:
             expect((status, answer) == (10, f"{unit}: holds\n"), *told)
             counts["holds"] += 1

@@ -26,7 +26,7 @@ use Rattle.law_document_answers.proofs.Statuses.{true_units}
 use Rattle.law_answers.specs.Confirmations.{confirmed_status}
 use Rattle.law_answers.specs.Laws.{is_open}
 use Rattle.law_answers.proofs.Open.{status_alike}
-use Rattle.law_answers.proofs.Confirmed.{not_confirmed, same_status_of, told_once}
+use Rattle.law_answers.proofs.Confirmed.{not_confirmed, same_status_of, told_known, told_once}
 use Rattle.law_answers.specs.Dues.{IsDue, IsDueTo, IsFault, IsReportFor, bits_of, confirmed, decided, default_bits, default_nodes, default_steps, faulty, is_false, is_of_documents, is_unknown, malformed, of_documents, of_unit, printed, proved_by, refused, status_of, text_for, too_long, unnamed}
 
 -- ---- all is proved
@@ -56,7 +56,7 @@ valid_text (Generated copies) text report is = (is.0, is.1)
 valid_text (Proof budgets) text report is = absurd is
 valid_text Check text report is = absurd is
 valid_text (Resume budgets) text report is = absurd is
-valid_text (Confirm name sizes budgets) text report is = absurd is
+valid_text (Confirm name sizes bits budgets) text report is = absurd is
 
 -- what is due of documents is due to a command on documents
 pub of_ones : (command : Command) (text : List ℕ) (due : Status) (answer : List ℕ) → IsDocumentDue command text due answer → is_of_documents command ≡ true
@@ -67,7 +67,7 @@ of_ones (Prove bits budgets) text due answer is = elim is [ ]
 of_ones (Only name bits budgets) text due answer is = elim is [ ]
 of_ones Print text due answer is = elim is [ ]
 of_ones (Generated copies) text due answer is = elim is [ ]
-of_ones (Confirm name sizes budgets) text due answer is = elim is [ ]
+of_ones (Confirm name sizes bits budgets) text due answer is = elim is [ ]
 
 -- and no command on documents asks for a report
 pub of_others : (command : Command) (text : List ℕ) (report : Report) → IsReportFor command text report → is_of_documents command ≡ true → ⊥
@@ -78,7 +78,7 @@ of_others (Generated copies) text report is e = true≢false (sym e)
 of_others (Proof budgets) text report is e = is
 of_others Check text report is e = is
 of_others (Resume budgets) text report is e = is
-of_others (Confirm name sizes budgets) text report is e = is
+of_others (Confirm name sizes bits budgets) text report is e = is
 
 module _ (not_both : IsNotBoth) (one_fault : IsOneFault) (one_tree : OneTree) (either : UnitsAreOrAreNot) where
   pub not_faulty : (command : Command) (text : List ℕ) (report : Report) (number at : ℕ) → IsReportFor command text report → IsFault command text number at → ⊥
@@ -95,7 +95,7 @@ module _ (not_both : IsNotBoth) (one_fault : IsOneFault) (one_tree : OneTree) (e
       let bad : ⊥ = cc in
       bad
   not_faulty _ text report _ _ is (unnamed name bits nodes steps none) = either text name bits nodes steps report is none
-  not_faulty _ text report _ _ is (of_unit name sizes budgets number at fault) = is
+  not_faulty _ text report _ _ is (of_unit name sizes bits budgets number at fault) = is
 
   not_printed : (text : List ℕ) (tree : Text) (number at : ℕ) → IsTree text tree → IsFault Print text number at → ⊥
   not_printed text tree _ _ is (too_long long) =
@@ -113,7 +113,7 @@ module _ (not_both : IsNotBoth) (one_fault : IsOneFault) (one_tree : OneTree) (e
     told_alike (Proof budgets) text report other is is_other = absurd is
     told_alike Check text report other is is_other = absurd is
     told_alike (Resume budgets) text report other is is_other = absurd is
-    told_alike (Confirm name sizes budgets) text report other is is_other = absurd is
+    told_alike (Confirm name sizes bits budgets) text report other is is_other = absurd is
 
     pub one_due : (command : Command) (text : List ℕ) (due other : Status) (answer another : List ℕ) → IsDue command text due answer → IsDue command text other another → is_open (bits_of command) due ≡ false → is_open (bits_of command) other ≡ false → due ≡ other
     one_due command text _ _ _ _ (decided report is) (decided another is_another) p q = status_alike (bits_of command) (proved_by command) report another (told_alike command text report another is is_another) p q
@@ -132,14 +132,14 @@ module _ (not_both : IsNotBoth) (one_fault : IsOneFault) (one_tree : OneTree) (e
     one_due _ text due _ answer _ (of_documents is) (printed tree is_tree) p q = absurd (true≢false (sym (of_ones Print text due answer is)))
     one_due command text due _ answer _ (of_documents is) (refused number at not fault) p q = absurd (true≢false (sym (of_ones command text due answer is) ∙ not))
     one_due command text due other answer another (of_documents is) (of_documents is_other) p q = one_document command text due other answer another is is_other
-    one_due _ text _ _ _ _ (decided report is) (confirmed name sizes budgets tree unit v valid called is_other) p q = absurd is
-    one_due _ text _ _ _ _ (refused number at not fault) (confirmed name sizes budgets tree unit v valid called is) p q = absurd (not_confirmed not_both one_fault one_tree text name sizes budgets v number at is fault)
-    one_due _ text due _ answer _ (of_documents is) (confirmed name sizes budgets tree unit v valid called is_other) p q = absurd (true≢false (sym (of_ones (Confirm name sizes budgets) text due answer is)))
-    one_due _ text _ _ _ _ (confirmed name sizes budgets tree unit v valid called is) (decided report is_other) p q = absurd is_other
-    one_due _ text _ _ _ _ (confirmed name sizes budgets tree unit v valid called is) (refused number at not fault) p q = absurd (not_confirmed not_both one_fault one_tree text name sizes budgets v number at is fault)
-    one_due _ text _ other _ another (confirmed name sizes budgets tree unit v valid called is) (of_documents is_other) p q = absurd (true≢false (sym (of_ones (Confirm name sizes budgets) text other another is_other)))
-    one_due _ text _ _ _ _ (confirmed name sizes budgets tree unit v valid called is) (confirmed _ _ _ tree_too unit_too w valid_too called_too is_other) p q =
-        same_status_of v w (told_once one_tree text name sizes budgets.nodes budgets.steps v w is is_other)
+    one_due _ text _ _ _ _ (decided report is) (confirmed name sizes bits budgets tree unit v valid called is_other) p q = absurd is
+    one_due _ text _ _ _ _ (refused number at not fault) (confirmed name sizes bits budgets tree unit v valid called is) p q = absurd (not_confirmed not_both one_fault one_tree text name sizes bits budgets v number at is fault)
+    one_due _ text due _ answer _ (of_documents is) (confirmed name sizes bits budgets tree unit v valid called is_other) p q = absurd (true≢false (sym (of_ones (Confirm name sizes bits budgets) text due answer is)))
+    one_due _ text _ _ _ _ (confirmed name sizes bits budgets tree unit v valid called is) (decided report is_other) p q = absurd is_other
+    one_due _ text _ _ _ _ (confirmed name sizes bits budgets tree unit v valid called is) (refused number at not fault) p q = absurd (not_confirmed not_both one_fault one_tree text name sizes bits budgets v number at is fault)
+    one_due _ text _ other _ another (confirmed name sizes bits budgets tree unit v valid called is) (of_documents is_other) p q = absurd (true≢false (sym (of_ones (Confirm name sizes bits budgets) text other another is_other)))
+    one_due _ text _ _ _ _ (confirmed name sizes bits budgets tree unit v valid called is) (confirmed _ _ _ _ tree_too unit_too w valid_too called_too is_other) p q =
+        same_status_of v w (told_known bits v w (told_once one_tree text name sizes bits budgets.nodes budgets.steps v w is is_other) p q)
 
 -- ---- all proved is due to `prove` alone
 
@@ -160,7 +160,7 @@ by_prove (Generated copies) text report is e all = absurd (true≢false (sym (ap
 by_prove (Proof budgets) text report is e all = absurd is
 by_prove Check text report is e all = absurd is
 by_prove (Resume budgets) text report is e all = absurd is
-by_prove (Confirm name sizes budgets) text report is e all = absurd is
+by_prove (Confirm name sizes bits budgets) text report is e all = absurd is
 
 -- all proved is not due to a unit at given sizes
 not_all : (v : Verdict) → is_all (confirmed_status v) ≡ false
@@ -196,7 +196,7 @@ all_due command text asked _ _ same e (decided report is) =
 all_due _ text asked _ _ same e (printed tree is) = absurd (true≢false (sym (ap is_all e)))
 all_due command text asked _ _ same e (refused number at not fault) = absurd (true≢false (sym (ap is_all e)))
 all_due command text asked due answer same e (of_documents is) = absurd (not_of_documents command asked due answer e is)
-all_due _ text asked _ _ same e (confirmed name sizes budgets tree unit v valid called is) = absurd (true≢false (sym (ap is_all e) ∙ not_all v))
+all_due _ text asked _ _ same e (confirmed name sizes bits budgets tree unit v valid called is) = absurd (true≢false (sym (ap is_all e) ∙ not_all v))
 
 pub all_due_to : (command : Option Command) (text answer : List ℕ) → IsDueTo command text status.AllProved answer → (asked : Command) × AllProvedOf asked text
 all_due_to None text answer due = absurd (true≢false (ap is_all due.0))

@@ -5,6 +5,7 @@ use Rattle.std.specs.List.{list_any}
 use Rattle.law_lists.proofs.Options.{some_is}
 use Rattle.smv_core.specs.declared.tree.Text.{Text}
 use Rattle.smv_core.specs.declared.flat.Unit.{Unit as DesignUnit}
+use Rattle.smv_bits.specs.declared.Bits.{Bits}
 use Rattle.smv_problem.specs.declared.report.Budgets.{Budgets}
 use Rattle.smv_problem.specs.declared.report.Verdict.{Verdict}
 use Rattle.smv_problem.specs.declared.report.Verdict.TheVariants as verdict
@@ -58,7 +59,7 @@ proved_not (Generated copies) text report is = refl
 proved_not (Proof budgets) text report is = refl
 proved_not Check text report is = refl
 proved_not (Resume budgets) text report is = refl
-proved_not (Confirm name sizes budgets) text report is = absurd is
+proved_not (Confirm name sizes bits budgets) text report is = absurd is
 
 judged_not : (j : Judgement) → is_asked (status_by j) ≡ false
 judged_not (yes n) = refl
@@ -80,18 +81,18 @@ documents_not _ bytes _ _ (resumed budgets old text proof new within is spells i
 documents_not _ bytes _ _ (open_resumed budgets old text proof report within is spells told unproved) = of_report status.Resumed report refl
 
 -- what is told of the unit that a command asks to confirm, and what is written of it
-record IsTold (name sizes : List ℕ) (nodes steps : ℕ) (text : List ℕ) (due : Status) (answer : List ℕ) : Type 0 where
+record IsTold (name sizes : List ℕ) (bits : Bits) (nodes steps : ℕ) (text : List ℕ) (due : Status) (answer : List ℕ) : Type 0 where
   pub tree : Text
   pub unit : DesignUnit
   pub found : Verdict
   pub is_valid : IsValid text tree
   pub is_called : unit_called (flat_design tree) name ≡ Some unit
-  pub is_confirmed : IsConfirmed text name sizes nodes steps found
+  pub is_confirmed : IsConfirmed text name sizes bits nodes steps found
   pub due_is : confirmed_status found ≡ due
   pub answer_is : answer ≡ confirmed_lines (flat_design tree) unit name found
 
 abbrev Told : Command → List ℕ → Status → List ℕ → Type 0
-Told (Confirm name sizes budgets) text due answer = IsTold name sizes budgets.nodes budgets.steps text due answer
+Told (Confirm name sizes bits budgets) text due answer = IsTold name sizes bits budgets.nodes budgets.steps text due answer
 Told _ text due answer = ⊥
 
 told_of : (command : Command) (text : List ℕ) (due : Status) (answer : List ℕ) → is_asked due ≡ true → IsDue command text due answer → Told command text due answer
@@ -99,7 +100,7 @@ told_of command text _ _ asked (decided report is) = absurd (true≢false (sym a
 told_of _ text _ _ asked (printed tree is) = absurd (true≢false (sym asked))
 told_of command text _ _ asked (refused number at other fault) = absurd (true≢false (sym asked))
 told_of command text due answer asked (of_documents is) = absurd (true≢false (sym asked ∙ documents_not command text due answer is))
-told_of _ text _ _ asked (confirmed name sizes budgets tree unit v valid called is) =
+told_of _ text _ _ asked (confirmed name sizes bits budgets tree unit v valid called is) =
     record { tree = tree; unit = unit; found = v; is_valid = valid; is_called = called; is_confirmed = is; due_is = refl; answer_is = refl }
 
 -- ---- what it says
@@ -120,10 +121,10 @@ true_is (verdict.UnknownSteps case) e = absurd (true≢false (sym (ap is_here e)
 
 pub holds_so : ConfirmedTrueHolds → HoldsHereIsSo
 holds_so law None text answer within is = absurd (true≢false (ap is_here is.0))
-holds_so law (Some (Confirm name sizes budgets)) text answer within is =
-    let t = told_of (Confirm name sizes budgets) text status.HoldsHere answer refl is in
-    let said = subst (IsConfirmed text name sizes budgets.nodes budgets.steps) (true_is t.found t.due_is) t.is_confirmed in
-    law text name sizes (positive sizes within.0) budgets.nodes budgets.steps said
+holds_so law (Some (Confirm name sizes bits budgets)) text answer within is =
+    let t = told_of (Confirm name sizes bits budgets) text status.HoldsHere answer refl is in
+    let said = subst (IsConfirmed text name sizes bits budgets.nodes budgets.steps) (true_is t.found t.due_is) t.is_confirmed in
+    law text name sizes (positive sizes within.0) bits budgets.nodes budgets.steps said
 holds_so law (Some (Prove bits budgets)) text answer within is = told_of (Prove bits budgets) text status.HoldsHere answer refl is
 holds_so law (Some (Only name bits budgets)) text answer within is = told_of (Only name bits budgets) text status.HoldsHere answer refl is
 holds_so law (Some Print) text answer within is = told_of Print text status.HoldsHere answer refl is
@@ -133,23 +134,23 @@ holds_so law (Some Check) text answer within is = told_of Check text status.Hold
 holds_so law (Some (Resume budgets)) text answer within is = told_of (Resume budgets) text status.HoldsHere answer refl is
 
 module _ (one_tree : OneTree) (law : ConfirmedFalseIsReal) where
-  real_told : (name sizes : List ℕ) (nodes steps : ℕ) (text : List ℕ) (budgets : Budgets) (answer : List ℕ) → AreSizes sizes → IsTold name sizes nodes steps text status.Real answer → IsRealAsAsked (Some (Confirm name sizes budgets)) text answer
-  real_told name sizes nodes steps text budgets answer within t = by t.found t.due_is t.is_confirmed t.answer_is
+  real_told : (name sizes : List ℕ) (bits : Bits) (nodes steps : ℕ) (text : List ℕ) (budgets : Budgets) (answer : List ℕ) → AreSizes sizes → IsTold name sizes bits nodes steps text status.Real answer → IsRealAsAsked (Some (Confirm name sizes bits budgets)) text answer
+  real_told name sizes bits nodes steps text budgets answer within t = by t.found t.due_is t.is_confirmed t.answer_is
     where
-      by : (v : Verdict) → confirmed_status v ≡ status.Real → IsConfirmed text name sizes nodes steps v → answer ≡ confirmed_lines (flat_design t.tree) t.unit name v → IsRealAsAsked (Some (Confirm name sizes budgets)) text answer
+      by : (v : Verdict) → confirmed_status v ≡ status.Real → IsConfirmed text name sizes bits nodes steps v → answer ≡ confirmed_lines (flat_design t.tree) t.unit name v → IsRealAsAsked (Some (Confirm name sizes bits budgets)) text answer
       by verdict.True e is written = absurd (true≢false (sym (ap is_real e)))
       by (verdict.UnknownNodes case count) e is written = absurd (true≢false (sym (ap is_real e)))
       by (verdict.UnknownSteps case) e is written = absurd (true≢false (sym (ap is_real e)))
       by (verdict.False case elements path) e is written =
-          let (tree, valid, real) = law text name sizes (positive sizes within) nodes steps case elements path is in
+          let (tree, valid, real) = law text name sizes (positive sizes within) bits nodes steps case elements path is in
           let trees : t.tree ≡ tree = one_tree text t.tree tree t.is_valid.is_tree valid.is_tree in
           let units : t.unit ≡ real.unit = some_is (sym t.is_called ∙ (ap (λ (x : Text). unit_called (flat_design x) name) trees ∙ real.is_called)) in
           (tree, case, elements, path, real, valid, written ∙ (λ i. confirmed_lines (flat_design (trees i)) (units i) name (verdict.False case elements path)))
 
   pub real_so : RealIsSo
   real_so None text answer within is = absurd (true≢false (ap is_real is.0))
-  real_so (Some (Confirm name sizes budgets)) text answer within is =
-      real_told name sizes budgets.nodes budgets.steps text budgets answer within.0 (told_of (Confirm name sizes budgets) text status.Real answer refl is)
+  real_so (Some (Confirm name sizes bits budgets)) text answer within is =
+      real_told name sizes bits budgets.nodes budgets.steps text budgets answer within.0 (told_of (Confirm name sizes bits budgets) text status.Real answer refl is)
   real_so (Some (Prove bits budgets)) text answer within is = told_of (Prove bits budgets) text status.Real answer refl is
   real_so (Some (Only name bits budgets)) text answer within is = told_of (Only name bits budgets) text status.Real answer refl is
   real_so (Some Print) text answer within is = told_of Print text status.Real answer refl is

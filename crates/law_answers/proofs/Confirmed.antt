@@ -1,4 +1,4 @@
--- What is told of a unit at given sizes, and what it is refused for, is one.
+-- What is told of a unit at given sizes, beside what is left unknown over near bits, and what it is refused for, is one.
 use Rattle.std.proofs.Common.{◌≡◌, ◌∙◌, ℕ, ◌-◌, false, List, length, Some, None, refl, sym, ap, subst, arith, true≢false}
 use Rattle.std.proofs.lemmas.List.{length-map}
 use Rattle.law_lists.proofs.Options.{some_is}
@@ -7,7 +7,8 @@ use Rattle.smv_core.specs.declared.tree.Text.{Text}
 use Rattle.smv_core.specs.declared.flat.Class.{Class}
 use Rattle.smv_core.specs.declared.flat.Unit.{Unit as DesignUnit}
 use Rattle.smv_parse.specs.Laws.{IsNotBoth, IsOneFault}
-use Rattle.smv_bits.specs.declared.Bits.TheVariants.{Declared}
+use Rattle.smv_bits.specs.declared.Bits.{Bits}
+use Rattle.smv_bits.specs.declared.Bits.TheVariants.{Near, Declared}
 use Rattle.smv_problem.specs.Written.{written_state}
 use Rattle.smv_problem.specs.declared.problem.AbsState.{AbsState as StateData}
 use Rattle.smv_problem.specs.declared.report.Budgets.{Budgets}
@@ -20,7 +21,7 @@ use Rattle.law_events.specs.Events.Event.{Reached}
 use Rattle.law_obligations.specs.Readings.{PosedCase}
 use Rattle.law_reports.specs.Told.{IsToldBy}
 use Rattle.law_reports.specs.Reports.{told}
-use Rattle.law_reports.specs.Verdicts.{IsVerdictFor, IsLeafVerdict, LeafVerdict, all_true, fails}
+use Rattle.law_reports.specs.Verdicts.{AreOne, IsVerdictFor, IsLeafVerdict, LeafVerdict, all_true, fails, is_unknown}
 use Rattle.law_reports.proofs.Decided.{one_of_leaf}
 use Rattle.law_valid_texts.specs.Joined.{flat_design}
 use Rattle.law_valid_texts.specs.Faults.{pass_fault}
@@ -33,20 +34,21 @@ use Rattle.law_confirmed.specs.Confirmed.{IsToldAt}
 use Rattle.law_document_answers.proofs.Verdicts.{verdict_is}
 use Rattle.law_answers.specs.Confirmations.{confirmed_lines, confirmed_status}
 use Rattle.law_answers.specs.Dues.{IsFault, faulty, is_false, malformed, of_unit, too_long}
+use Rattle.law_answers.specs.Laws.{is_open}
 use Rattle.law_answers.specs.OneAnswer.{shows_path}
 
 -- ---- what is told
 
 -- the verdict of a list of cases, without the path that is shown
-told_leaf : (case_for : List Class → PosedCase) (nodes steps : ℕ) (cases : List (List Class)) (v : Verdict) → IsToldBy case_for Declared nodes steps cases v → IsLeafVerdict (IsVerdictFor case_for Declared nodes steps) cases (told v)
-told_leaf case_for nodes steps cases verdict.True is = is
-told_leaf case_for nodes steps cases (verdict.False case elements path) (k, fail, shown) =
+told_leaf : (case_for : List Class → PosedCase) (bits : Bits) (nodes steps : ℕ) (cases : List (List Class)) (v : Verdict) → IsToldBy case_for bits nodes steps cases v → IsLeafVerdict (IsVerdictFor case_for bits nodes steps) cases (told v)
+told_leaf case_for bits nodes steps cases verdict.True is = is
+told_leaf case_for bits nodes steps cases (verdict.False case elements path) (k, fail, shown) =
     let long = shown.is_shortest.is_so_long in
     let written = ap (λ (xs : List StateData). length xs) shown.path_is ∙ length-map shown.states (written_state (case_for case.classes)) in
     let same : k ≡ length path - 1 = omega arith in
-    subst (λ (n : ℕ). IsLeafVerdict (IsVerdictFor case_for Declared nodes steps) cases (fails case.classes (Reached n))) same fail
-told_leaf case_for nodes steps cases (verdict.UnknownNodes case count) is = is
-told_leaf case_for nodes steps cases (verdict.UnknownSteps case) is = is
+    subst (λ (n : ℕ). IsLeafVerdict (IsVerdictFor case_for bits nodes steps) cases (fails case.classes (Reached n))) same fail
+told_leaf case_for bits nodes steps cases (verdict.UnknownNodes case count) is = is
+told_leaf case_for bits nodes steps cases (verdict.UnknownSteps case) is = is
 
 -- the status by what is told
 abbrev status_told : LeafVerdict → Status
@@ -62,6 +64,18 @@ status_is (verdict.UnknownSteps case) = refl
 
 pub same_status_of : (v w : Verdict) → told v ≡ told w → confirmed_status v ≡ confirmed_status w
 same_status_of v w same = status_is v ∙ (ap status_told same ∙ sym (status_is w))
+
+-- what is told where it is not left open is known
+known : (v : Verdict) → is_open Near (confirmed_status v) ≡ false → is_unknown (told v) ≡ false
+known verdict.True e = refl
+known (verdict.False case elements path) e = refl
+known (verdict.UnknownNodes case count) e = absurd (true≢false e)
+known (verdict.UnknownSteps case) e = absurd (true≢false e)
+
+-- so two verdicts tell the same where neither leaves it open
+pub told_known : (bits : Bits) (v w : Verdict) → AreOne bits (told v) (told w) → is_open bits (confirmed_status v) ≡ false → is_open bits (confirmed_status w) ≡ false → told v ≡ told w
+told_known Declared v w same p q = same
+told_known Near v w one p q = one (known v p) (known w q)
 
 -- where no path is shown the verdict is not false
 unfalse : (v : Verdict) → shows_path (confirmed_status v) ≡ false → is_false v ≡ false
@@ -101,16 +115,16 @@ module _ (one_tree : OneTree) where
 
   -- ---- what is told is told once
 
-  pub told_once : (text name given : List ℕ) (nodes steps : ℕ) (v w : Verdict) → IsConfirmed text name given nodes steps v → IsConfirmed text name given nodes steps w → told v ≡ told w
-  told_once text name given nodes steps v w is is_too =
+  pub told_once : (text name given : List ℕ) (bits : Bits) (nodes steps : ℕ) (v w : Verdict) → IsConfirmed text name given bits nodes steps v → IsConfirmed text name given bits nodes steps w → AreOne bits (told v) (told w)
+  told_once text name given bits nodes steps v w is is_too =
       let trees = same_tree text is.tree is_too.tree is.is_valid is_too.is_valid in
       let units = same_unit name is.tree is_too.tree is.unit is_too.unit trees is.is_called is_too.is_called in
       let d = flat_design is_too.tree in
-      let at_too : IsToldAt d (sizes_at d.sets given) is_too.unit nodes steps v =
-      subst (λ (p : Text × DesignUnit). IsToldAt (flat_design p.0) (sizes_at (flat_design p.0).sets given) p.1 nodes steps v) (λ i. (trees i, units i)) is.is_told in
+      let at_too : IsToldAt d (sizes_at d.sets given) is_too.unit bits nodes steps v =
+      subst (λ (p : Text × DesignUnit). IsToldAt (flat_design p.0) (sizes_at (flat_design p.0).sets given) p.1 bits nodes steps v) (λ i. (trees i, units i)) is.is_told in
       let case_for = concrete_case d (sizes_at d.sets given) is_too.unit in
       let cases = concrete_cases d (sizes_at d.sets given) is_too.unit in
-      one_of_leaf case_for nodes steps Declared cases (told v) (told w) (told_leaf case_for nodes steps cases v at_too) (told_leaf case_for nodes steps cases w is_too.is_told)
+      one_of_leaf case_for nodes steps bits cases (told v) (told w) (told_leaf case_for bits nodes steps cases v at_too) (told_leaf case_for bits nodes steps cases w is_too.is_told)
 
   pub same_lines : (text name : List ℕ) (tree other : Text) (unit unit_too : DesignUnit) (v w : Verdict) → IsValid text tree → IsValid text other → unit_called (flat_design tree) name ≡ Some unit →
       unit_called (flat_design other) name ≡ Some unit_too → told v ≡ told w → shows_path (confirmed_status v) ≡ false → confirmed_lines (flat_design tree) unit name v ≡ confirmed_lines (flat_design other) unit_too name w
@@ -123,21 +137,21 @@ module _ (one_tree : OneTree) where
 -- ---- not both
 
 module _ (not_both : IsNotBoth) (one_fault : IsOneFault) (one_tree : OneTree) where
-  not_unit_fault : (text name given : List ℕ) (nodes steps : ℕ) (v : Verdict) (number at : ℕ) → IsConfirmed text name given nodes steps v → IsUnitFault text name given number at → ⊥
-  not_unit_fault text name given nodes steps v _ _ is (unnamed tree valid none) =
+  not_unit_fault : (text name given : List ℕ) (bits : Bits) (nodes steps : ℕ) (v : Verdict) (number at : ℕ) → IsConfirmed text name given bits nodes steps v → IsUnitFault text name given number at → ⊥
+  not_unit_fault text name given bits nodes steps v _ _ is (unnamed tree valid none) =
       never (sym none ∙ (ap (λ (t : Text). unit_called (flat_design t) name) (same_tree one_tree text tree is.tree valid is.is_valid) ∙ is.is_called))
-  not_unit_fault text name given nodes steps v _ _ is (unsized tree unit fault valid called found) =
+  not_unit_fault text name given bits nodes steps v _ _ is (unsized tree unit fault valid called found) =
       let trees = same_tree one_tree text is.tree tree is.is_valid valid in
       let units = same_unit one_tree name is.tree tree is.unit unit trees is.is_called called in
       never (sym is.is_taken ∙ ((λ i. sizes_fault (flat_design (trees i)) (units i) given) ∙ found))
 
   -- what is told of a unit's text has no fault
-  pub not_confirmed : (text name given : List ℕ) (budgets : Budgets) (v : Verdict) (number at : ℕ) → IsConfirmed text name given budgets.nodes budgets.steps v → IsFault (Confirm name given budgets) text number at → ⊥
-  not_confirmed text name given budgets v _ _ is (too_long long) =
+  pub not_confirmed : (text name given : List ℕ) (bits : Bits) (budgets : Budgets) (v : Verdict) (number at : ℕ) → IsConfirmed text name given bits budgets.nodes budgets.steps v → IsFault (Confirm name given bits budgets) text number at → ⊥
+  not_confirmed text name given bits budgets v _ _ is (too_long long) =
       let within = is.is_valid.is_tree.within in
       omega (arith, long, within)
-  not_confirmed text name given budgets v _ _ is (malformed number at within fault) = not_both text is.tree number at is.is_valid.is_tree.spelled fault
-  not_confirmed text name given budgets v _ _ is (faulty tree fault deciding is_tree found) =
+  not_confirmed text name given bits budgets v _ _ is (malformed number at within fault) = not_both text is.tree number at is.is_valid.is_tree.spelled fault
+  not_confirmed text name given bits budgets v _ _ is (faulty tree fault deciding is_tree found) =
       let same = sym found ∙ (ap pass_fault (one_tree text tree is.tree is_tree is.is_valid.is_tree) ∙ is.is_valid.is_faultless) in
       never (sym same)
-  not_confirmed text name given budgets v _ _ is (of_unit _ _ _ number at fault) = not_unit_fault text name given budgets.nodes budgets.steps v number at is fault
+  not_confirmed text name given bits budgets v _ _ is (of_unit _ _ _ _ number at fault) = not_unit_fault text name given bits budgets.nodes budgets.steps v number at is fault

@@ -27,7 +27,7 @@ own_not (Generated copies) text report is = refl
 own_not (Proof budgets) text report is = absurd is
 own_not Check text report is = absurd is
 own_not (Resume budgets) text report is = absurd is
-own_not (Confirm name sizes budgets) text report is = absurd is
+own_not (Confirm name sizes bits budgets) text report is = absurd is
 
 of_report : (command : Command) (text : List ℕ) (report : Report) → IsReportFor command text report → is_own (status_of (proved_by command) report) ≡ false
 of_report command text report is = by (list_any (λ u. is_false u.verdict) report.units) (list_any (λ u. is_unknown u.verdict) report.units)
@@ -48,7 +48,7 @@ found command text _ _ own (decided report is) = absurd (true≢false (sym own �
 found _ text _ _ own (printed tree is) = absurd (true≢false (sym own))
 found command text _ _ own (refused number at other fault) = absurd (true≢false (sym own))
 found command text due answer own (of_documents is) = is
-found _ text _ _ own (confirmed name sizes budgets tree unit v valid called is) = absurd (true≢false (sym own ∙ own_none v))
+found _ text _ _ own (confirmed name sizes bits budgets tree unit v valid called is) = absurd (true≢false (sym own ∙ own_none v))
 
 -- the text of a command on documents is the one that was read
 its_text : (command : Command) (text asked answer : List ℕ) (due : Status) → text_for command text ≡ asked → IsDocumentDue command asked due answer → asked ≡ text
@@ -59,7 +59,7 @@ its_text (Prove bits budgets) text asked answer due e is = elim is [ ]
 its_text (Only name bits budgets) text asked answer due e is = elim is [ ]
 its_text Print text asked answer due e is = elim is [ ]
 its_text (Generated copies) text asked answer due e is = elim is [ ]
-its_text (Confirm name sizes budgets) text asked answer due e is = elim is [ ]
+its_text (Confirm name sizes bits budgets) text asked answer due e is = elim is [ ]
 
 -- what holds of the bytes of each such answer holds of what was read
 pub of_read : (P : List ℕ → Type 0) (due : Status) → is_own due ≡ true → ((command : Command) (text answer : List ℕ) → IsDocumentDue command text due answer → P text) →

@@ -12,7 +12,7 @@ use Rattle.law_document_answers.proofs.Statuses.{none_false}
 use Rattle.law_answers.specs.Dues.{IsDue, bits_of, confirmed, decided, lines_for, of_documents, printed, proved_by, refused, text_for}
 use Rattle.law_answers.specs.Laws.{is_open}
 use Rattle.law_answers.specs.OneAnswer.{OneAnswer, shows_path}
-use Rattle.law_answers.proofs.Confirmed.{not_confirmed, same_lines, told_once}
+use Rattle.law_answers.proofs.Confirmed.{not_confirmed, same_lines, told_known, told_once}
 use Rattle.law_answers.proofs.Answers.{of_ones, of_others}
 use Rattle.law_answers.proofs.OneFault.{one_first, unprinted, unreported}
 use Rattle.law_answers.proofs.OneReport.{one_for}
@@ -38,14 +38,14 @@ module _ (one_spelled : IsOneTree) (one_fault : IsOneFault) (not_both : IsNotBot
   one_of _ text due _ answer _ (of_documents is) (printed tree is_tree) p q not = absurd (true≢false (sym (of_ones Print text due answer is)))
   one_of command text due _ answer _ (of_documents is) (refused number at own fault) p q not = absurd (true≢false (sym (of_ones command text due answer is) ∙ own))
   one_of command text due other answer another (of_documents is) (of_documents is_other) p q not = one_document command text due other answer another is is_other (λ e. true≢false (sym (ap shows_path e) ∙ not))
-  one_of _ text _ _ _ _ (decided report is) (confirmed name sizes budgets tree unit v valid called is_other) p q not = absurd is
-  one_of _ text _ _ _ _ (refused number at own fault) (confirmed name sizes budgets tree unit v valid called is) p q not = absurd (not_confirmed not_both one_fault one_tree text name sizes budgets v number at is fault)
-  one_of _ text due _ answer _ (of_documents is) (confirmed name sizes budgets tree unit v valid called is_other) p q not = absurd (true≢false (sym (of_ones (Confirm name sizes budgets) text due answer is)))
-  one_of _ text _ _ _ _ (confirmed name sizes budgets tree unit v valid called is) (decided report is_other) p q not = absurd is_other
-  one_of _ text _ _ _ _ (confirmed name sizes budgets tree unit v valid called is) (refused number at own fault) p q not = absurd (not_confirmed not_both one_fault one_tree text name sizes budgets v number at is fault)
-  one_of _ text _ other _ another (confirmed name sizes budgets tree unit v valid called is) (of_documents is_other) p q not = absurd (true≢false (sym (of_ones (Confirm name sizes budgets) text other another is_other)))
-  one_of _ text _ _ _ _ (confirmed name sizes budgets tree unit v valid called is) (confirmed _ _ _ tree_too unit_too w valid_too called_too is_other) p q not =
-      same_lines one_tree text name tree tree_too unit unit_too v w valid valid_too called called_too (told_once one_tree text name sizes budgets.nodes budgets.steps v w is is_other) not
+  one_of _ text _ _ _ _ (decided report is) (confirmed name sizes bits budgets tree unit v valid called is_other) p q not = absurd is
+  one_of _ text _ _ _ _ (refused number at own fault) (confirmed name sizes bits budgets tree unit v valid called is) p q not = absurd (not_confirmed not_both one_fault one_tree text name sizes bits budgets v number at is fault)
+  one_of _ text due _ answer _ (of_documents is) (confirmed name sizes bits budgets tree unit v valid called is_other) p q not = absurd (true≢false (sym (of_ones (Confirm name sizes bits budgets) text due answer is)))
+  one_of _ text _ _ _ _ (confirmed name sizes bits budgets tree unit v valid called is) (decided report is_other) p q not = absurd is_other
+  one_of _ text _ _ _ _ (confirmed name sizes bits budgets tree unit v valid called is) (refused number at own fault) p q not = absurd (not_confirmed not_both one_fault one_tree text name sizes bits budgets v number at is fault)
+  one_of _ text _ other _ another (confirmed name sizes bits budgets tree unit v valid called is) (of_documents is_other) p q not = absurd (true≢false (sym (of_ones (Confirm name sizes bits budgets) text other another is_other)))
+  one_of _ text _ _ _ _ (confirmed name sizes bits budgets tree unit v valid called is) (confirmed _ _ _ _ tree_too unit_too w valid_too called_too is_other) p q not =
+      same_lines one_tree text name tree tree_too unit unit_too v w valid valid_too called called_too (told_known bits v w (told_once one_tree text name sizes bits budgets.nodes budgets.steps v w is is_other) p q) not
 
   pub one_due : OneAnswer
   one_due None text due other answer another is is_other p q not = is.1 ∙ sym is_other.1

@@ -59,7 +59,7 @@ module _ (not_both : IsNotBoth) (one_fault : IsOneFault) (one_tree : OneTree) wh
   reported (Proof budgets) text report is = absurd is
   reported Check text report is = absurd is
   reported (Resume budgets) text report is = absurd is
-  reported (Confirm name sizes budgets) text report is = absurd is
+  reported (Confirm name sizes bits budgets) text report is = absurd is
 
   -- a text of which there is a right report has none
   pub unreported : UnitsAreOrAreNot → (command : Command) (text : List ℕ) (report : Report) (number at : ℕ) → IsReportFor command text report → IsFault command text number at → ⊥
@@ -73,7 +73,7 @@ module _ (not_both : IsNotBoth) (one_fault : IsOneFault) (one_tree : OneTree) wh
       let valid = reported command text report is in
       unfaulty text valid.0 tree f valid.1 is_tree found
   unreported either _ text report _ _ is (unnamed name bits nodes steps none) = either text name bits nodes steps report is none
-  unreported either _ text report _ _ is (of_unit name sizes budgets number at fault) = is
+  unreported either _ text report _ _ is (of_unit name sizes bits budgets number at fault) = is
 
   pub one_first : (command : Command) (text : List ℕ) (number other at place : ℕ) → IsFault command text number at → IsFault command text other place → AreSame number other at place
   one_first command text _ _ _ _ (too_long long) (too_long longer) = record { numbers = refl; places = refl }
@@ -94,24 +94,24 @@ module _ (not_both : IsNotBoth) (one_fault : IsOneFault) (one_tree : OneTree) wh
   one_first _ text _ _ _ _ (unnamed name bits nodes steps none) (malformed other place within fault) = absurd (formed text none.0 other place none.1.is_tree fault)
   one_first _ text _ _ _ _ (unnamed name bits nodes steps none) (faulty tree f deciding is found) = absurd (unfaulty text none.0 tree f none.1 is found)
   one_first _ text _ _ _ _ (unnamed name bits nodes steps none) (unnamed other bits_too images turns none_too) = record { numbers = refl; places = refl }
-  one_first _ text _ _ _ _ (too_long long) (of_unit name sizes budgets number at fault) =
+  one_first _ text _ _ _ _ (too_long long) (of_unit name sizes bits budgets number at fault) =
       let valid = text_of_fault text name sizes number at fault in
       absurd (short text valid.0 valid.1.is_tree long)
-  one_first _ text _ _ _ _ (malformed number at within fault) (of_unit name sizes budgets other place of_sizes) =
+  one_first _ text _ _ _ _ (malformed number at within fault) (of_unit name sizes bits budgets other place of_sizes) =
       let valid = text_of_fault text name sizes other place of_sizes in
       absurd (formed text valid.0 number at valid.1.is_tree fault)
-  one_first _ text _ _ _ _ (faulty tree f deciding is found) (of_unit name sizes budgets other place of_sizes) =
+  one_first _ text _ _ _ _ (faulty tree f deciding is found) (of_unit name sizes bits budgets other place of_sizes) =
       let valid = text_of_fault text name sizes other place of_sizes in
       absurd (unfaulty text valid.0 tree f valid.1 is found)
-  one_first _ text _ _ _ _ (of_unit name sizes budgets number at fault) (too_long long) =
+  one_first _ text _ _ _ _ (of_unit name sizes bits budgets number at fault) (too_long long) =
       let valid = text_of_fault text name sizes number at fault in
       absurd (short text valid.0 valid.1.is_tree long)
-  one_first _ text _ _ _ _ (of_unit name sizes budgets number at of_sizes) (malformed other place within fault) =
+  one_first _ text _ _ _ _ (of_unit name sizes bits budgets number at of_sizes) (malformed other place within fault) =
       let valid = text_of_fault text name sizes number at of_sizes in
       absurd (formed text valid.0 other place valid.1.is_tree fault)
-  one_first _ text _ _ _ _ (of_unit name sizes budgets number at of_sizes) (faulty tree f deciding is found) =
+  one_first _ text _ _ _ _ (of_unit name sizes bits budgets number at of_sizes) (faulty tree f deciding is found) =
       let valid = text_of_fault text name sizes number at of_sizes in
       absurd (unfaulty text valid.0 tree f valid.1 is found)
-  one_first _ text _ _ _ _ (of_unit name sizes budgets number at fault) (of_unit _ _ _ other place fault_too) =
+  one_first _ text _ _ _ _ (of_unit name sizes bits budgets number at fault) (of_unit _ _ _ _ other place fault_too) =
       let same = one_unit_fault one_tree text name sizes number other at place fault fault_too in
       record { numbers = same.0; places = same.1 }

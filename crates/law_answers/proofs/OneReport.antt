@@ -86,4 +86,4 @@ module _ (one_tree : OneTree) where
     one_for (Proof budgets) text r q is is_too o p f = absurd is
     one_for Check text r q is is_too o p f = absurd is
     one_for (Resume budgets) text r q is is_too o p f = absurd is
-    one_for (Confirm name sizes budgets) text r q is is_too o p f = absurd is
+    one_for (Confirm name sizes bits budgets) text r q is is_too o p f = absurd is

@@ -41,7 +41,7 @@ reads (Some (Generated copies)) = false
 reads (Some (Proof budgets)) = true
 reads (Some Check) = true
 reads (Some (Resume budgets)) = true
-reads (Some (Confirm name sizes budgets)) = true
+reads (Some (Confirm name sizes bits budgets)) = true
 reads None = false
 
 -- a command that decides the units of its text
@@ -53,7 +53,7 @@ decides (Generated copies) = true
 decides (Proof budgets) = true
 decides Check = false
 decides (Resume budgets) = false
-decides (Confirm name sizes budgets) = true
+decides (Confirm name sizes bits budgets) = true
 
 -- a command that reads or writes proof documents
 abbrev pub is_of_documents : Command → Bool
@@ -71,7 +71,7 @@ text_for (Generated copies) text = generated_text copies
 text_for (Proof budgets) text = text
 text_for Check text = text
 text_for (Resume budgets) text = text
-text_for (Confirm name sizes budgets) text = text
+text_for (Confirm name sizes bits budgets) text = text
 
 -- the most bytes that a command reads
 abbrev pub limit_for : Command → ℕ
@@ -106,7 +106,7 @@ IsReportFor (Generated copies) text report = IsRightReport text default_bits def
 IsReportFor (Proof budgets) text report = ⊥
 IsReportFor Check text report = ⊥
 IsReportFor (Resume budgets) text report = ⊥
-IsReportFor (Confirm name sizes budgets) text report = ⊥
+IsReportFor (Confirm name sizes bits budgets) text report = ⊥
 
 -- the bits over which a command has its text decided
 abbrev pub bits_of : Command → Bits
@@ -117,7 +117,7 @@ bits_of (Generated copies) = default_bits
 bits_of (Proof budgets) = Declared
 bits_of Check = Declared
 bits_of (Resume budgets) = Declared
-bits_of (Confirm name sizes budgets) = Declared
+bits_of (Confirm name sizes bits budgets) = bits
 
 -- the status where all that a command asks to decide is true
 abbrev pub proved_by : Command → Status
@@ -128,7 +128,7 @@ proved_by (Generated copies) = status.Generated
 proved_by (Proof budgets) = status.Documented
 proved_by Check = status.Checked
 proved_by (Resume budgets) = status.Resumed
-proved_by (Confirm name sizes budgets) = status.HoldsHere
+proved_by (Confirm name sizes bits budgets) = status.HoldsHere
 
 -- what is written of a report
 abbrev pub lines_for : Command → Report → List ℕ
@@ -139,7 +139,7 @@ lines_for (Generated copies) report = generated_lines copies report
 lines_for (Proof budgets) report = report_lines report
 lines_for Check report = report_lines report
 lines_for (Resume budgets) report = report_lines report
-lines_for (Confirm name sizes budgets) report = report_lines report
+lines_for (Confirm name sizes bits budgets) report = report_lines report
 
 -- ---- the answer
 
@@ -150,7 +150,7 @@ pub data IsFault : Command → List ℕ → ℕ → ℕ → Type 0 where
   malformed : {command : Command} {text : List ℕ} (number at : ℕ) → length text ≤ limit → HasFault text number at → IsFault command text number at
   faulty : {command : Command} {text : List ℕ} (tree : Text) (fault : Fault) → decides command ≡ true → IsTree text tree → pass_fault tree ≡ Some fault → IsFault command text fault.number fault.at
   unnamed : {text : List ℕ} (name : List ℕ) (bits : Bits) (nodes steps : ℕ) → HasNoUnit text name → IsFault (Only name bits (record { nodes = nodes; steps = steps })) text 26 0
-  of_unit : {text : List ℕ} (name sizes : List ℕ) (budgets : Budgets) (number at : ℕ) → IsUnitFault text name sizes number at → IsFault (Confirm name sizes budgets) text number at
+  of_unit : {text : List ℕ} (name sizes : List ℕ) (bits : Bits) (budgets : Budgets) (number at : ℕ) → IsUnitFault text name sizes number at → IsFault (Confirm name sizes bits budgets) text number at
 
 -- the status and the whole answer that a command and its text call for
 pub data IsDue : Command → List ℕ → Status → List ℕ → Type 0 where
@@ -158,8 +158,8 @@ pub data IsDue : Command → List ℕ → Status → List ℕ → Type 0 where
   printed : {text : List ℕ} (tree : Text) → IsTree text tree → IsDue Print text status.Printed (canonical tree)
   refused : {command : Command} {text : List ℕ} (number at : ℕ) → is_of_documents command ≡ false → IsFault command text number at → IsDue command text status.Refused (fault_text text number at)
   of_documents : {command : Command} {text : List ℕ} {due : Status} {answer : List ℕ} → IsDocumentDue command text due answer → IsDue command text due answer
-  confirmed : {text : List ℕ} (name sizes : List ℕ) (budgets : Budgets) (tree : Text) (unit : DesignUnit) (verdict : Verdict) → IsValid text tree → unit_called (flat_design tree) name ≡ Some unit →
-      IsConfirmed text name sizes budgets.nodes budgets.steps verdict → IsDue (Confirm name sizes budgets) text (confirmed_status verdict) (confirmed_lines (flat_design tree) unit name verdict)
+  confirmed : {text : List ℕ} (name sizes : List ℕ) (bits : Bits) (budgets : Budgets) (tree : Text) (unit : DesignUnit) (verdict : Verdict) → IsValid text tree → unit_called (flat_design tree) name ≡ Some unit →
+      IsConfirmed text name sizes bits budgets.nodes budgets.steps verdict → IsDue (Confirm name sizes bits budgets) text (confirmed_status verdict) (confirmed_lines (flat_design tree) unit name verdict)
 
 -- what is written where the words are no command
 abbrev pub usage_line : List ℕ

@@ -10,6 +10,7 @@ use Rattle.smv_core.specs.declared.flat.Case.{Case as CaseData}
 use Rattle.smv_core.specs.declared.flat.Element.{Element}
 use Rattle.smv_core.specs.declared.flat.Design.{Design}
 use Rattle.smv_core.specs.declared.flat.Unit.{Unit as DesignUnit}
+use Rattle.smv_bits.specs.declared.Bits.{Bits}
 use Rattle.smv_problem.specs.declared.problem.AbsState.{AbsState as StateData}
 use Rattle.smv_problem.specs.declared.report.Verdict.{Verdict}
 use Rattle.smv_problem.specs.declared.report.Verdict.TheVariants.{True, False}
@@ -31,14 +32,14 @@ unit_called d name = find (λ unit. bytes_eq (name_of d (unit_in d unit)) name) 
 abbrev pub ArePositive : List ℕ → Type 0
 ArePositive given = (k : ℕ) → Has given k → 1 ≤ k
 
--- what is told of the unit of this name of a valid text, at sizes at which it is not refused
-pub record IsConfirmed (text name given : List ℕ) (nodes steps : ℕ) (verdict : Verdict) : Type 0 where
+-- what is told of the unit of this name of a valid text, over bits that stand so, at sizes at which it is not refused
+pub record IsConfirmed (text name given : List ℕ) (bits : Bits) (nodes steps : ℕ) (verdict : Verdict) : Type 0 where
   pub tree : Text
   pub is_valid : IsValid text tree
   pub unit : DesignUnit
   pub is_called : unit_called (flat_design tree) name ≡ Some unit
   pub is_taken : sizes_fault (flat_design tree) unit given ≡ None
-  pub is_told : IsToldAt (flat_design tree) (sizes_at (flat_design tree).sets given) unit nodes steps verdict
+  pub is_told : IsToldAt (flat_design tree) (sizes_at (flat_design tree).sets given) unit bits nodes steps verdict
 
 -- the fault of a unit of a valid text by its number and its offset: that no unit has the name, or that of the sizes
 pub data IsUnitFault (text name given : List ℕ) : ℕ → ℕ → Type 0 where
@@ -57,7 +58,7 @@ pub record HoldsAtGiven (tree : Text) (name given : List ℕ) : Type 0 where
       AtEachTime (Holds (design_of tree) (sizes_at (flat_design tree).sets given) u vs) None run
 
 abbrev pub ConfirmedTrueHolds : Type 0
-ConfirmedTrueHolds = (text name given : List ℕ) → ArePositive given → (nodes steps : ℕ) → IsConfirmed text name given nodes steps True → (tree : Text) × IsValid text tree × HoldsAtGiven tree name given
+ConfirmedTrueHolds = (text name given : List ℕ) → ArePositive given → (bits : Bits) (nodes steps : ℕ) → IsConfirmed text name given bits nodes steps True → (tree : Text) × IsValid text tree × HoldsAtGiven tree name given
 
 -- where it is false, what is shown is the part of a run of them
 pub record IsRealAtGiven (tree : Text) (name given : List ℕ) (case : CaseData) (elements : List Element) (path : List StateData) : Type 0 where
@@ -69,5 +70,5 @@ pub record IsRealAtGiven (tree : Text) (name given : List ℕ) (case : CaseData)
   pub is_real : IsShownReal tree (sizes_at (flat_design tree).sets given) u unit case elements path
 
 abbrev pub ConfirmedFalseIsReal : Type 0
-ConfirmedFalseIsReal = (text name given : List ℕ) → ArePositive given → (nodes steps : ℕ) (case : CaseData) (elements : List Element) (path : List StateData) →
-    IsConfirmed text name given nodes steps (False case elements path) → (tree : Text) × IsValid text tree × IsRealAtGiven tree name given case elements path
+ConfirmedFalseIsReal = (text name given : List ℕ) → ArePositive given → (bits : Bits) (nodes steps : ℕ) (case : CaseData) (elements : List Element) (path : List StateData) →
+    IsConfirmed text name given bits nodes steps (False case elements path) → (tree : Text) × IsValid text tree × IsRealAtGiven tree name given case elements path

@@ -5,7 +5,7 @@ use Rattle.smv_core.specs.FlatOrder.{design_of}
 use Rattle.smv_core.specs.Outcome.{State}
 use Rattle.smv_core.specs.Sound.{ProofUnit, AtEachTime, AreSizes, Holds, IsRun, instances}
 use Rattle.smv_core.specs.declared.tree.Text.{Text}
-use Rattle.smv_bits.specs.declared.Bits.TheVariants.{Declared}
+use Rattle.smv_bits.specs.declared.Bits.{Bits}
 use Rattle.smv_core.specs.declared.flat.Case.{Case as CaseData}
 use Rattle.smv_core.specs.declared.flat.Element.{Element}
 use Rattle.smv_core.specs.declared.flat.Design.{Design}
@@ -22,13 +22,13 @@ use Rattle.law_reports.specs.Told.{IsToldBy}
 use Rattle.law_concrete.specs.Concrete.{concrete_cases, concrete_places, concrete_cone, concrete_case}
 use Rattle.law_sized_texts.specs.Texts.{IsRightText, IsSameUnit, IsRealInText}
 
--- the verdict of a unit at given sizes over the declared bits, by its cases in order up to the first that is not true
-abbrev pub IsToldAt : Design → Sizes → DesignUnit → ℕ → ℕ → Verdict → Type 0
-IsToldAt d sizes unit nodes steps verdict = IsToldBy (concrete_case d sizes unit) Declared nodes steps (concrete_cases d sizes unit) verdict
+-- the verdict of a unit at given sizes over bits that stand so, by its cases in order up to the first that is not true
+abbrev pub IsToldAt : Design → Sizes → DesignUnit → Bits → ℕ → ℕ → Verdict → Type 0
+IsToldAt d sizes unit bits nodes steps verdict = IsToldBy (concrete_case d sizes unit) bits nodes steps (concrete_cases d sizes unit) verdict
 
 -- where the unit is true at these sizes, each of its instances holds at each time of each run of these sizes
 abbrev pub TrueHolds : Type 0
-TrueHolds = (text : Text) → IsRightText text → (u : ProofUnit) (unit : DesignUnit) → IsSameUnit text u unit → (sizes : Sizes) → AreSizes text sizes → (nodes steps : ℕ) → IsToldAt (design_of_flat_text (flatten text)) sizes unit nodes steps True →
+TrueHolds = (text : Text) → IsRightText text → (u : ProofUnit) (unit : DesignUnit) → IsSameUnit text u unit → (sizes : Sizes) → AreSizes text sizes → (bits : Bits) (nodes steps : ℕ) → IsToldAt (design_of_flat_text (flatten text)) sizes unit bits nodes steps True →
     (run : List State) → IsRun (design_of text) sizes run → (vs : List Value) → Has (instances (design_of text) sizes u) vs → AtEachTime (Holds (design_of text) sizes u vs) None run
 
 -- what is shown where it is false: abstract states of the case, written as data, that are the part, on these elements, of a run of these sizes in which the case's instance fails at the last time and which no shorter run
@@ -41,5 +41,5 @@ pub record IsShownReal (text : Text) (sizes : Sizes) (u : ProofUnit) (unit : Des
   pub is_real : IsRealInText text sizes u unit case.classes states
 
 abbrev pub FalseIsReal : Type 0
-FalseIsReal = (text : Text) → IsRightText text → (u : ProofUnit) (unit : DesignUnit) → IsSameUnit text u unit → (sizes : Sizes) → AreSizes text sizes → (nodes steps : ℕ) (case : CaseData) (elements : List Element) (path : List StateData) →
-    IsToldAt (design_of_flat_text (flatten text)) sizes unit nodes steps (False case elements path) → IsShownReal text sizes u unit case elements path
+FalseIsReal = (text : Text) → IsRightText text → (u : ProofUnit) (unit : DesignUnit) → IsSameUnit text u unit → (sizes : Sizes) → AreSizes text sizes → (bits : Bits) (nodes steps : ℕ) (case : CaseData) (elements : List Element) (path : List StateData) →
+    IsToldAt (design_of_flat_text (flatten text)) sizes unit bits nodes steps (False case elements path) → IsShownReal text sizes u unit case elements path

@@ -178,4 +178,4 @@ module _ (not_both : IsNotBoth) (one_fault : IsOneFault) (one_tree : OneTree) (o
   one_due (Only name bits budgets) text due other answer another is is_too = elim is [ ]
   one_due Print text due other answer another is is_too = elim is [ ]
   one_due (Generated copies) text due other answer another is is_too = elim is [ ]
-  one_due (Confirm name sizes budgets) text due other answer another is is_too = elim is [ ]
+  one_due (Confirm name sizes bits budgets) text due other answer another is is_too = elim is [ ]

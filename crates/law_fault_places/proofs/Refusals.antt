@@ -38,7 +38,7 @@ under (Generated copies) n number at is = is
 under (Proof budgets) n number at is = is
 under Check n number at is = is
 under (Resume budgets) n number at is = is
-under (Confirm name sizes budgets) n number at is = inl is
+under (Confirm name sizes bits budgets) n number at is = inl is
 
 module _ (form : IsWithin) (trees : TreesOfTextsAreWithin) (passes : PassFaultsAreWithin) (flat : FlattenedTextsAreWithin) (designs : DesignsAreWithin) where
   pub fault-within : (command : Command) (text : List ℕ) (number at : ℕ) → IsFault command text number at → IsFaultUnder command (length text) number at
@@ -49,7 +49,7 @@ module _ (form : IsWithin) (trees : TreesOfTextsAreWithin) (passes : PassFaultsA
   fault-within command text _ _ (faulty tree fault asks is found) =
       under command (length text) fault.number fault.at (found-within (length text) (pass_fault tree) fault found (passes (length text) tree (trees text tree is.spelled)))
   fault-within _ text _ _ (unnamed name bits nodes steps none) = record { lowest = omega arith; highest = omega arith; place = omega arith }
-  fault-within _ text _ _ (of_unit name sizes budgets number at fault) = unit-fault-within trees flat designs text name sizes number at fault
+  fault-within _ text _ _ (of_unit name sizes bits budgets number at fault) = unit-fault-within trees flat designs text name sizes number at fault
 
 abbrev is_refused : Status → Bool
 is_refused status.Refused = true
@@ -63,7 +63,7 @@ proved-not (Generated copies) = refl
 proved-not (Proof budgets) = refl
 proved-not Check = refl
 proved-not (Resume budgets) = refl
-proved-not (Confirm name sizes budgets) = refl
+proved-not (Confirm name sizes bits budgets) = refl
 
 decided-not : (command : Command) (report : Report) → is_refused (status_of (proved_by command) report) ≡ false
 decided-not command report = by (list_any (λ (u : UnitResult). is_false u.verdict) report.units) (list_any (λ (u : UnitResult). is_unknown u.verdict) report.units)
@@ -87,7 +87,7 @@ pub refusal-tells : FaultsAreWithin → (command : Command) (text : List ℕ) (d
 refusal-tells within command text _ _ own (decided report h) e = absurd (true≢false (sym e ∙ decided-not command report))
 refusal-tells within _ text _ _ own (printed tree h) e = absurd (true≢false (sym e))
 refusal-tells within command text _ _ own (refused number at other h) e = (number, at, h, within command text number at h, refl)
-refusal-tells within _ text _ _ own (confirmed name sizes budgets tree unit v valid called h) e = absurd (true≢false (sym e ∙ confirmed-not v))
+refusal-tells within _ text _ _ own (confirmed name sizes bits budgets tree unit v valid called h) e = absurd (true≢false (sym e ∙ confirmed-not v))
 refusal-tells within command text due answer own (of_documents h) e = absurd (true≢false (sym (of_ones command text due answer h) ∙ own))
 
 -- ---- of documents

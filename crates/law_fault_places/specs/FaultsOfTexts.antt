@@ -23,7 +23,7 @@ pub record IsSizeFaultWithin (n number at : ℕ) : Type 0 where
 
 -- the number and the place of a fault under a command
 abbrev pub IsFaultUnder : Command → ℕ → ℕ → ℕ → Type 0
-IsFaultUnder (Confirm name sizes budgets) n number at = IsFaultWithin n number at ⊎ IsSizeFaultWithin n number at
+IsFaultUnder (Confirm name sizes bits budgets) n number at = IsFaultWithin n number at ⊎ IsSizeFaultWithin n number at
 IsFaultUnder _ n number at = IsFaultWithin n number at
 
 -- the first fault of a text under any command stands within the text

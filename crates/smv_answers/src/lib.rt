@@ -196,6 +196,7 @@ pub fn reads(command: &Command) -> bool
         Command::Confirm {
             name: _,
             sizes: _,
+            bits: _,
             budgets: _,
         } => true,
     }
@@ -223,6 +224,7 @@ fn written(alloc: Global, command: &Command, report: &Report) -> Result<Vec<u8>,
         Command::Confirm {
             name: _,
             sizes: _,
+            bits: _,
             budgets: _,
         } => lines(alloc, report),
     }
@@ -250,6 +252,7 @@ fn proved_by(command: &Command) -> Status
         Command::Confirm {
             name: _,
             sizes: _,
+            bits: _,
             budgets: _,
         } => Status::HoldsHere,
     }

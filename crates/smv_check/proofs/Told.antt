@@ -56,7 +56,7 @@ fault_of command text _ _ e (too_long long) = judgements.too_long long
 fault_of command text _ _ e (malformed number at within fault) = judgements.malformed number at within fault
 fault_of command text _ _ e (faulty tree fault deciding is found) = judgements.faulty tree fault is found
 fault_of _ text _ _ e (unnamed name bits nodes steps none) = absurd (cc (e))
-fault_of _ text _ _ e (of_unit name sizes budgets number at is) = absurd (cc (e))
+fault_of _ text _ _ e (of_unit name sizes bits budgets number at is) = absurd (cc (e))
 
 fault_is : (text : List ℕ) (fault : Fault) → IsFaultRead text fault → IsFaultOf text fault.number fault.at
 fault_is text fault is = fault_of (Prove Declared (record { nodes = 1; steps = 1 })) text fault.number fault.at refl (is (Prove Declared (record { nodes = 1; steps = 1 })) refl)

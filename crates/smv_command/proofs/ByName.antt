@@ -1,5 +1,5 @@
 -- What the name of a subcommand says of its command.
-use Rattle.std.proofs.Common.{◌≡◌, ◌∙◌, List, ap, codes, Bool, not, ◌&&◌, ◌||◌, Option, Some, None, is_some, refl, subst, sym, true, false}
+use Rattle.std.proofs.Common.{◌≡◌, ◌∙◌, ℕ, List, ap, codes, Bool, not, ◌&&◌, Option, Some, None, is_some, refl, subst, sym, true, false}
 use Rattle.std.specs.Str.{bytes_eq}
 use Rattle.std.proofs.lemmas.Slice.Eq.{bytes_eq-Decides}
 use Rattle.std.specs.Prelude.{option_map}
@@ -7,7 +7,7 @@ use Rattle.clap.specs.Walk.{Row, Text}
 use Rattle.smv_problem.specs.declared.report.Budgets.{Budgets}
 use Rattle.smv_command.specs.declared.commands.Command.TheVariants.{Prove, Only, Print, Generated, Proof, Check, Resume, Confirm}
 use Rattle.smv_command.specs.Ranges.{most_copies}
-use Rattle.smv_command.specs.Commands.{bits_in, both, budgets_in, misnames, name_in, named, number_in, sizes_in}
+use Rattle.smv_command.specs.Commands.{bits_in, both, budgets_in, has_bits, misnames, name_in, named, number_in, sizes_in}
 use Rattle.smv_command.proofs.Values.{both_some, map_some}
 
 pub prove_is : (rows : List Row) → named (codes "prove") rows ≡ option_map (λ p. Prove p.0 p.1) (both (bits_in rows) (budgets_in rows))
@@ -38,7 +38,7 @@ pub resume_is : (rows : List Row) → named (codes "resume") rows ≡ option_map
 unfolding named
 resume_is rows = refl
 
-pub confirm_is : (rows : List Row) → named (codes "confirm") rows ≡ option_map (λ p. Confirm p.0 p.1.0 p.1.1) (both (name_in rows) (both (sizes_in rows) (budgets_in rows)))
+pub confirm_is : (rows : List Row) → named (codes "confirm") rows ≡ option_map (λ p. Confirm p.0 p.1.0 p.1.1.0 p.1.1.1) (both (name_in rows) (both (sizes_in rows) (both (bits_in rows) (budgets_in rows))))
 unfolding named
 confirm_is rows = refl
 
@@ -75,39 +75,36 @@ pub at_resume : (word : Text) (rows : List Row) → bytes_eq word (codes "resume
 at_resume word rows e = at_word word (codes "resume") rows e ∙ resume_is rows
 
 pub at_confirm : (word : Text) (rows : List Row) → bytes_eq word (codes "confirm") ≡ true
-    → named word rows ≡ option_map (λ p. Confirm p.0 p.1.0 p.1.1) (both (name_in rows) (both (sizes_in rows) (budgets_in rows)))
+    → named word rows ≡ option_map (λ p. Confirm p.0 p.1.0 p.1.1.0 p.1.1.1) (both (name_in rows) (both (sizes_in rows) (both (bits_in rows) (budgets_in rows))))
 at_confirm word rows e = at_word word (codes "confirm") rows e ∙ confirm_is rows
 
 -- ---- bits that are named, or need no name
 
 -- where they are named by a word of theirs
 pub names_bits : (word : Text) (rows : List Row) → is_some (bits_in rows) ≡ true → misnames word rows ≡ false
-names_bits word rows e = ap (λ (b : Bool). (bytes_eq word (codes "prove") || bytes_eq word (codes "only")) && not b) e ∙ none (bytes_eq word (codes "prove") || bytes_eq word (codes "only"))
+names_bits word rows e = ap (λ (b : Bool). has_bits word && not b) e ∙ none (has_bits word)
   where
     none : (b : Bool) → b && not true ≡ false
     none true = refl
     none false = refl
 
--- and in a subcommand without them
-pub needs_none : (word : Text) (rows : List Row) → bytes_eq word (codes "prove") ≡ false → bytes_eq word (codes "only") ≡ false → misnames word rows ≡ false
-needs_none word rows e f = rw (e, f) refl
+-- in the subcommand of a name without them
+pub needs_none : (word w : Text) (rows : List Row) → bytes_eq word w ≡ true → has_bits w ≡ false → misnames word rows ≡ false
+needs_none word w rows e none = subst (λ (u : Text). misnames u rows ≡ false) (sym ((bytes_eq-Decides word w).0 e)) (ap (λ (b : Bool). b && not (is_some (bits_in rows))) none)
+
+-- and in any but those that have them
+pub has_none : (word : Text) (rows : List Row) → bytes_eq word (codes "prove") ≡ false → bytes_eq word (codes "only") ≡ false → bytes_eq word (codes "confirm") ≡ false → misnames word rows ≡ false
+has_none word rows e f g = rw (e, f, g) refl
 
 -- where they are not named there is no command
 pub no_bits : (name : Option Text) (budgets : Option Budgets) → option_map (λ p. Only p.0 p.1.0 p.1.1) (both name (both None budgets)) ≡ None
 no_bits None budgets = refl
 no_bits (Some n) budgets = refl
 
--- a command that is there has its bits named
-pub some_names_bits : (word : Text) (rows : List Row) → is_some (named word rows) ≡ true → misnames word rows ≡ false
-some_names_bits word rows there = by (bytes_eq word (codes "prove")) refl (bytes_eq word (codes "only")) refl
-  where
-    by : (p : Bool) → bytes_eq word (codes "prove") ≡ p → (q : Bool) → bytes_eq word (codes "only") ≡ q → misnames word rows ≡ false
-    by true e q f = names_bits word rows (both_some (bits_in rows) (budgets_in rows) (map_some (λ p. Prove p.0 p.1) (both (bits_in rows) (budgets_in rows)) (ap is_some (sym (at_prove word rows e)) ∙ there))).0
-    by false e true f =
-        let bits_and_budgets = both (bits_in rows) (budgets_in rows) in
-        let more = both_some (name_in rows) bits_and_budgets (map_some (λ p. Only p.0 p.1.0 p.1.1) (both (name_in rows) bits_and_budgets) (ap is_some (sym (at_only word rows f)) ∙ there)) in
-        names_bits word rows (both_some (bits_in rows) (budgets_in rows) more.1).0
-    by false e false f = needs_none word rows e f
+pub no_bits_there : (name : Option Text) (sizes : Option (List ℕ)) (budgets : Option Budgets) → option_map (λ p. Confirm p.0 p.1.0 p.1.1.0 p.1.1.1) (both name (both sizes (both None budgets))) ≡ None
+no_bits_there None sizes budgets = refl
+no_bits_there (Some n) None budgets = refl
+no_bits_there (Some n) (Some ns) budgets = refl
 
 -- ---- what a named command was given
 
@@ -133,9 +130,24 @@ pub given_to_resume : (word : Text) (rows : List Row) → bytes_eq word (codes "
 given_to_resume word rows e there = map_some Resume (budgets_in rows) (ap is_some (sym (at_resume word rows e)) ∙ there)
 
 pub given_to_confirm : (word : Text) (rows : List Row) → bytes_eq word (codes "confirm") ≡ true → is_some (named word rows) ≡ true
-    → (is_some (name_in rows) ≡ true) × (is_some (sizes_in rows) ≡ true) × (is_some (budgets_in rows) ≡ true)
+    → (is_some (name_in rows) ≡ true) × (is_some (sizes_in rows) ≡ true) × (is_some (bits_in rows) ≡ true) × (is_some (budgets_in rows) ≡ true)
 given_to_confirm word rows e there =
-    let sizes_and_budgets = both (sizes_in rows) (budgets_in rows) in
-    let (name, more) = both_some (name_in rows) sizes_and_budgets (map_some (λ p. Confirm p.0 p.1.0 p.1.1) (both (name_in rows) sizes_and_budgets) (ap is_some (sym (at_confirm word rows e)) ∙ there)) in
-    let (sizes, budgets) = both_some (sizes_in rows) (budgets_in rows) more in
-    (name, sizes, budgets)
+    let bits_and_budgets = both (bits_in rows) (budgets_in rows) in
+    let behind = both (sizes_in rows) bits_and_budgets in
+    let (name, more) = both_some (name_in rows) behind (map_some (λ p. Confirm p.0 p.1.0 p.1.1.0 p.1.1.1) (both (name_in rows) behind) (ap is_some (sym (at_confirm word rows e)) ∙ there)) in
+    let (sizes, most) = both_some (sizes_in rows) bits_and_budgets more in
+    let (bits, budgets) = both_some (bits_in rows) (budgets_in rows) most in
+    (name, sizes, bits, budgets)
+
+-- a command that is there has its bits named
+pub some_names_bits : (word : Text) (rows : List Row) → is_some (named word rows) ≡ true → misnames word rows ≡ false
+some_names_bits word rows there = by (bytes_eq word (codes "prove")) refl (bytes_eq word (codes "only")) refl (bytes_eq word (codes "confirm")) refl
+  where
+    by : (p : Bool) → bytes_eq word (codes "prove") ≡ p → (q : Bool) → bytes_eq word (codes "only") ≡ q → (r : Bool) → bytes_eq word (codes "confirm") ≡ r → misnames word rows ≡ false
+    by true e q f r g = names_bits word rows (both_some (bits_in rows) (budgets_in rows) (map_some (λ p. Prove p.0 p.1) (both (bits_in rows) (budgets_in rows)) (ap is_some (sym (at_prove word rows e)) ∙ there))).0
+    by false e true f r g =
+        let bits_and_budgets = both (bits_in rows) (budgets_in rows) in
+        let more = both_some (name_in rows) bits_and_budgets (map_some (λ p. Only p.0 p.1.0 p.1.1) (both (name_in rows) bits_and_budgets) (ap is_some (sym (at_only word rows f)) ∙ there)) in
+        names_bits word rows (both_some (bits_in rows) (budgets_in rows) more.1).0
+    by false e false f true g = names_bits word rows (given_to_confirm word rows g there).2
+    by false e false f false g = has_none word rows e f g

@@ -58,9 +58,9 @@ each_of_only =
 each_of_generated : EachKnown (copies ∷ []) (copies ∷ [])
 each_of_generated = (record { by_id = refl; valued = refl }, tt)
 
-each_of_confirm : EachKnown (name ∷ sizes ∷ budgets) (name ∷ sizes ∷ budgets)
+each_of_confirm : EachKnown (name ∷ sizes ∷ bits ∷ budgets) (name ∷ sizes ∷ bits ∷ budgets)
 each_of_confirm =
-    (record { by_id = refl; valued = refl }, (record { by_id = refl; valued = refl }, (record { by_id = refl; valued = refl }, (record { by_id = refl; valued = refl }, tt))))
+    (record { by_id = refl; valued = refl }, (record { by_id = refl; valued = refl }, (record { by_id = refl; valued = refl }, (record { by_id = refl; valued = refl }, (record { by_id = refl; valued = refl }, tt)))))
 
 nodes_given : (rows : List Row) → HasValue nodes rows → is_some (number_in most_nodes (codes "nodes") rows) ≡ true
 nodes_given rows v = number_given most_nodes (codes "nodes") rows v.written (omega arith) v.one (accepts-Accepts false (Signed (pos 1) (pos most_nodes)) v.written v.passing)
@@ -144,13 +144,14 @@ resume_given rest e right =
 
 confirm_given : (rest : List Text) → Gives rest (seen line.confirm)
 confirm_given rest e right =
-    let c = name ∷ sizes ∷ budgets in
+    let c = name ∷ sizes ∷ bits ∷ budgets in
     let rows = rows_after c [] rest in
     let level = level_is (seen line.confirm) [] rest false [] (are_known c each_of_confirm) each_of_confirm e in
     let named = value_of c name rows each_of_confirm.0 level.fits (has_given (codes "NAME") rows (absent _ _ level.given).0) in
-    ap is_some (confirm_is rows) ∙ both_given (λ p. Confirm p.0 p.1.0 p.1.1) (name_in rows) (both (sizes_in rows) (budgets_in rows)) (ap is_some named.first)
-    (both_there (sizes_in rows) (budgets_in rows) (sizes_given c rows each_of_confirm.1.0 level.fits)
-    (budgets_given c (with_default (with_default (settled c (walk c [] nothing_held rest).held).rows name) sizes) each_of_confirm.1.1.0 each_of_confirm.1.1.1.0 level.fits))
+    ap is_some (confirm_is rows) ∙ both_given (λ p. Confirm p.0 p.1.0 p.1.1.0 p.1.1.1) (name_in rows) (both (sizes_in rows) (both (bits_in rows) (budgets_in rows))) (ap is_some named.first)
+    (both_there (sizes_in rows) (both (bits_in rows) (budgets_in rows)) (sizes_given c rows each_of_confirm.1.0 level.fits)
+    (both_there (bits_in rows) (budgets_in rows) (named_there (is_some (bits_in rows)) right)
+    (budgets_given c (with_default (with_default (with_default (settled c (walk c [] nothing_held rest).held).rows name) sizes) bits) each_of_confirm.1.1.1.0 each_of_confirm.1.1.1.1.0 level.fits)))
 
 among_gives : (s : Shape) (rest : List Text) → Among s (built line.smv).subs → Gives rest s
 among_gives s rest (inl is) = subst (Gives rest) (sym is) (prove_given rest)

@@ -63,7 +63,7 @@ abbrev pub resume : Shape
 resume = subcommand (codes "resume") (nodes ∷ steps ∷ [])
 
 abbrev pub confirm : Shape
-confirm = subcommand (codes "confirm") (name ∷ sizes ∷ nodes ∷ steps ∷ [])
+confirm = subcommand (codes "confirm") (name ∷ sizes ∷ bits ∷ nodes ∷ steps ∷ [])
 
 -- no program's name stands before the words, a subcommand is required, and nothing asks for help or the version
 abbrev pub bare : Shape

@@ -60,12 +60,16 @@ named word rows =
     else (if bytes_eq word (codes "proof") then option_map Proof (budgets_in rows)
     else (if bytes_eq word (codes "check") then Some Check
     else (if bytes_eq word (codes "resume") then option_map Resume (budgets_in rows)
-    else (if bytes_eq word (codes "confirm") then option_map (λ p. Confirm p.0 p.1.0 p.1.1) (both (name_in rows) (both (sizes_in rows) (budgets_in rows)))
+    else (if bytes_eq word (codes "confirm") then option_map (λ p. Confirm p.0 p.1.0 p.1.1.0 p.1.1.1) (both (name_in rows) (both (sizes_in rows) (both (bits_in rows) (budgets_in rows))))
     else None)))))))
 
--- a subcommand whose bits are named by none of their words
+-- a subcommand that has bits
+abbrev pub has_bits : Text → Bool
+has_bits word = bytes_eq word (codes "prove") || (bytes_eq word (codes "only") || bytes_eq word (codes "confirm"))
+
+-- one whose bits are named by none of their words
 abbrev pub misnames : Text → List Row → Bool
-misnames word rows = (bytes_eq word (codes "prove") || bytes_eq word (codes "only")) && not (is_some (bits_in rows))
+misnames word rows = has_bits word && not (is_some (bits_in rows))
 
 abbrev pub NamesBits : Option (Text × List Row) → Type 0
 NamesBits None = Unit {0}

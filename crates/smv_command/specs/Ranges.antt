@@ -36,4 +36,4 @@ IsInRange (Generated copies) = (1 ≤ copies) × (copies ≤ most_copies)
 IsInRange (Proof budgets) = AreInRange budgets
 IsInRange Check = Unit {0}
 IsInRange (Resume budgets) = AreInRange budgets
-IsInRange (Confirm name sizes budgets) = AreSizes sizes × AreInRange budgets
+IsInRange (Confirm name sizes bits budgets) = AreSizes sizes × AreInRange budgets

@@ -81,6 +81,7 @@ fn confirm<'a>(alloc: Global) -> Result<Command<'a>, AllocError>
     Command::new(alloc, "confirm")
         .arg(name(alloc))?
         .arg(sizes(alloc))?
+        .arg(bits(alloc))?
         .arg(nodes(alloc))?
         .arg(steps(alloc))
 }

@@ -37,6 +37,7 @@ pub enum Command {
     Confirm {
         name: Name,
         sizes: Seq<u16>,
+        bits: Bits,
         budgets: Budgets,
     },
 }

@@ -4,7 +4,7 @@ ghost use Rattle.std.specs.String.{string_bytes};
 ghost use Rattle.clap.specs.Matches.{found_of};
 ghost use Rattle.clap.specs.Walk.{first_of, rows_of, texts};
 ghost use Rattle.clap.specs.Simple.{subcommand_rows_of};
-ghost use Rattle.smv_command.specs.declared.commands.Command.TheVariants.{Prove, Only};
+ghost use Rattle.smv_command.specs.declared.commands.Command.TheVariants.{Prove, Only, Confirm};
 ghost use Rattle.smv_command.specs.Built.{IsGiven};
 ghost use Rattle.smv_command.specs.Ranges.{most_size};
 ghost use Rattle.smv_command.specs.Commands.{bits_in, bits_named, both, budgets_in, command_of, misnames, name_in, named, number, number_in, numbers, sizes_in};
@@ -68,14 +68,7 @@ fn named(alloc: Global, word: &str, matches: &ArgMatches<'_>) -> Result<Option<C
         let budgets = budgets_in(matches);
         Ok(Some(Command::Resume { budgets }))
     } else if word == "confirm" {
-        let name = text_in(alloc, matches, "NAME")?;
-        let sizes = sizes_in(alloc, matches)?;
-        let budgets = budgets_in(matches);
-        Ok(Some(Command::Confirm {
-            name,
-            sizes,
-            budgets,
-        }))
+        confirm_in(alloc, matches)
     } else {
         unreachable!()
     }
@@ -107,6 +100,29 @@ fn only_in(alloc: Global, matches: &ArgMatches<'_>) -> Result<Option<Command>, A
             let budgets = budgets_in(matches);
             Ok(Some(Command::Only {
                 name,
+                bits,
+                budgets,
+            }))
+        }
+        None => Ok(None),
+    }
+}
+
+// The command that decides the unit of a name at given sizes, or none where it names its bits by none of their words.
+fn confirm_in(alloc: Global, matches: &ArgMatches<'_>) -> Result<Option<Command>, AllocError>
+    requires name { is_some (bits_in (rows_of (found_of matches.now))) ≡ true → is_some (name_in (rows_of (found_of matches.now))) ≡ true }
+    requires sizes { is_some (bits_in (rows_of (found_of matches.now))) ≡ true → is_some (sizes_in (rows_of (found_of matches.now))) ≡ true }
+    requires budgets { is_some (bits_in (rows_of (found_of matches.now))) ≡ true → is_some (budgets_in (rows_of (found_of matches.now))) ≡ true }
+    ensures { IfOk result (λ found. option_map (λ p. Confirm p.0 p.1.0 p.1.1.0 p.1.1.1) (both (name_in (rows_of (found_of matches.now))) (both (sizes_in (rows_of (found_of matches.now))) (both (bits_in (rows_of (found_of matches.now))) (budgets_in (rows_of (found_of matches.now)))))) ≡ found) }
+{
+    match bits_in(matches) {
+        Some(bits) => {
+            let name = text_in(alloc, matches, "NAME")?;
+            let sizes = sizes_in(alloc, matches)?;
+            let budgets = budgets_in(matches);
+            Ok(Some(Command::Confirm {
+                name,
+                sizes,
                 bits,
                 budgets,
             }))

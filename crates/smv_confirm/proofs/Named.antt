@@ -8,6 +8,7 @@ use Rattle.smv_core.specs.declared.flat.Design.{Design}
 use Rattle.smv_core.specs.declared.flat.Unit.{Unit as DesignUnit}
 use Rattle.smv_core.specs.declared.tree.Text.{Text}
 use Rattle.smv_lex.specs.Answers.{IfFault}
+use Rattle.smv_bits.specs.declared.Bits.{Bits}
 use Rattle.law_obligations.specs.Outlines.{place_of}
 use Rattle.law_obligations.specs.Units.{units_of}
 use Rattle.law_problems.specs.Parts.{Refuses}
@@ -57,16 +58,16 @@ module _ (text name given : List ℕ) (plan : Plan) (h : HasPlan text plan) wher
     fault-is : sizes_fault plan.design (unit_at plan place) given ≡ sizes_fault d found.0 given
     fault-is = λ i. sizes_fault (is-plan.design i) (unit-is i) given
 
-    pub confirmed : (nodes steps : ℕ) (c : Confirmed) → c.design ≡ plan.design → c.params ≡ (own_of plan place).params → sizes_fault plan.design (unit_at plan place) given ≡ None →
-        IsToldAt plan.design (sizes_at plan.design.sets given) (unit_at plan place) nodes steps c.verdict → IsConfirmation text name given nodes steps c
-    confirmed nodes steps c design params taken told = record {
+    pub confirmed : (bits : Bits) (nodes steps : ℕ) (c : Confirmed) → c.design ≡ plan.design → c.params ≡ (own_of plan place).params → sizes_fault plan.design (unit_at plan place) given ≡ None →
+        IsToldAt plan.design (sizes_at plan.design.sets given) (unit_at plan place) bits nodes steps c.verdict → IsConfirmation text name given bits nodes steps c
+    confirmed bits nodes steps c design params taken told = record {
       is_confirmed = record {
         tree = tree;
         is_valid = h.1;
         unit = found.0;
         is_called = found.2;
         is_taken = sym fault-is ∙ taken;
-        is_told = subst (λ (x : Design × DesignUnit). IsToldAt x.0 (sizes_at x.0.sets given) x.1 nodes steps c.verdict) (λ i. (is-plan.design i, unit-is i)) told;
+        is_told = subst (λ (x : Design × DesignUnit). IsToldAt x.0 (sizes_at x.0.sets given) x.1 bits nodes steps c.verdict) (λ i. (is-plan.design i, unit-is i)) told;
       };
       tree = tree;
       is_valid = h.1;

@@ -3,6 +3,7 @@ use Rattle.std.specs.Prelude.{◌≡◌, ◌≤◌, ℕ, List, Some}
 use Rattle.smv_core.specs.declared.fault.Fault.{Fault}
 use Rattle.smv_core.specs.declared.flat.Unit.{Unit}
 use Rattle.smv_core.specs.declared.tree.Text.{Text}
+use Rattle.smv_bits.specs.declared.Bits.{Bits}
 use Rattle.law_obligations.specs.Outlines.{unit_in}
 use Rattle.law_obligations.specs.Sets.{Has}
 use Rattle.law_splits.specs.Leaves.{own_params}
@@ -16,9 +17,9 @@ use Rattle.smv_confirm.specs.declared.Confirmed.{Confirmed}
 abbrev pub AreInRange : List ℕ → Type 0
 AreInRange given = (k : ℕ) → Has given k → (1 ≤ k) × (k ≤ 256)
 
--- what is told of the unit of this name at these sizes, with the design and the unit's own parameters
-pub record IsConfirmation (text name given : List ℕ) (nodes steps : ℕ) (c : Confirmed) : Type 0 where
-  pub is_confirmed : IsConfirmed text name given nodes steps c.verdict
+-- what is told of the unit of this name at these sizes, over bits that stand so, with the design and the unit's own parameters
+pub record IsConfirmation (text name given : List ℕ) (bits : Bits) (nodes steps : ℕ) (c : Confirmed) : Type 0 where
+  pub is_confirmed : IsConfirmed text name given bits nodes steps c.verdict
   pub tree : Text
   pub is_valid : IsValid text tree
   pub design : c.design ≡ flat_design tree

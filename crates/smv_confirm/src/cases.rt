@@ -2,7 +2,6 @@
 ghost use Rattle.std.specs.Prelude.{◌≡◌, ◌≤◌, IfOk, None};
 ghost use Rattle.law_obligations.specs.Sets.{Has};
 ghost use Rattle.law_concrete.specs.Sizes.{case_fault};
-ghost use Rattle.smv_bits.specs.declared.Bits.TheVariants.{Declared};
 ghost use Rattle.law_reports.specs.Told.{IsToldBy};
 ghost use Rattle.smv_obligations.specs.Shared.{IsShared, shared_in};
 ghost use Rattle.smv_problem.specs.WellFormed.{IsProblemOf};
@@ -42,12 +41,13 @@ fn problem_of(
     }
 }
 
-// Decides a case that has not too many state bits.
+// Decides a case that has not too many state bits, over bits that stand so.
 fn decide_case(
     alloc: Global,
     subject: &Subject,
     shared: Shared,
     case: &Case,
+    bits: Bits,
     budgets: Budgets,
 ) -> Result<Decided, AllocError>
     requires sized { IsSized subject.now.design.now subject.now.sizes.now }
@@ -56,20 +56,21 @@ fn decide_case(
     requires case { Has (cases_in subject.now) case.now.classes }
     requires width { case_fault subject.now.design.now (unit_of subject.now) subject.now.sizes.now case.now.classes ≡ None }
     requires steps { 1 ≤ budgets.steps }
-    ensures decided { IfOk result (λ decided. IsDecided Declared budgets.nodes budgets.steps (case_in subject.now case.now.classes) decided.decision) }
+    ensures decided { IfOk result (λ decided. IsDecided bits budgets.nodes budgets.steps (case_in subject.now case.now.classes) decided.decision) }
     ensures shared { IfOk result (λ decided. IsShared subject.now.design.now decided.shared) }
 {
     let made = problem_of(alloc, subject, shared, case)?;
-    let decided = decide_problem(alloc, made, Bits::Declared, budgets)?;
+    let decided = decide_problem(alloc, made, bits, budgets)?;
     Ok(decided)
 }
 
-/// Decides cases of a unit in order, up to the first that is not true.
+/// Decides cases of a unit in order, over bits that stand so, up to the first that is not true.
 pub(crate) fn decide_cases(
     alloc: Global,
     subject: &Subject,
     shared: Shared,
     cases: &[Case],
+    bits: Bits,
     budgets: Budgets,
 ) -> Result<Verdict, AllocError>
     requires sized { IsSized subject.now.design.now subject.now.sizes.now }
@@ -77,11 +78,11 @@ pub(crate) fn decide_cases(
     requires shared { IsShared subject.now.design.now shared }
     requires cases { AreNarrow subject.now cases.now }
     requires steps { 1 ≤ budgets.steps }
-    ensures { IfOk result (IsToldBy (case_in subject.now) Declared budgets.nodes budgets.steps (classes_in cases.now)) }
+    ensures { IfOk result (IsToldBy (case_in subject.now) bits budgets.nodes budgets.steps (classes_in cases.now)) }
 {
     let mut common = shared;
     for case in cases {
-        let decided = decide_case(alloc, subject, common, case, budgets)?;
+        let decided = decide_case(alloc, subject, common, case, bits, budgets)?;
         common = decided.shared;
         let verdict = verdict_at(alloc, case, decided.decision)?;
         match verdict {

@@ -13,6 +13,7 @@ mod subjects;
 
 use law_sized_texts::sized::designs_are_exact;
 use law_valid_texts::plans_of_texts::valid_texts_are_faultless;
+use smv_bits::Bits;
 use smv_core::flat::{Design, Param};
 use smv_core::{Fault, Refusal, Seq};
 use smv_problem::{Budgets, Verdict};
@@ -27,19 +28,20 @@ pub struct Confirmed {
     pub verdict: Verdict,
 }
 
-/// Decides the first unit of this name at given sizes, one for each set type without a size of its own. Refused are the text's first fault; that no unit has the name (26, at the front of the text); another number of sizes (34, there too); and at the
+/// Decides the first unit of this name at given sizes, one for each set type without a size of its own, over bits that stand so. Refused are the text's first fault; that no unit has the name (26, at the front of the text); another number of sizes (34, there too); and at the
 /// unit a family with more than 256 elements (35), more than 8 parameters or 4,096 cases (29), and a case with more than 1,024 state bits (30).
 pub fn confirm(
     alloc: Global,
     text: &[u8],
     name: &[u8],
     sizes: &[u16],
+    bits: Bits,
     budgets: Budgets,
 ) -> Result<Confirmed, Refusal>
     requires within { length text.now ≤ limit }
     requires steps { 1 ≤ budgets.steps }
     requires sizes { AreInRange sizes.now }
-    ensures confirmed { IfOk result (IsConfirmation text.now name.now sizes.now budgets.nodes budgets.steps) }
+    ensures confirmed { IfOk result (IsConfirmation text.now name.now sizes.now bits budgets.nodes budgets.steps) }
     ensures fault { IfFault result (IsConfirmFault text.now name.now sizes.now) }
 {
     designs_are_exact();
@@ -49,7 +51,7 @@ pub fn confirm(
         Ok(plan) => {
             let place = place_named(alloc, &plan.design, plan.units.as_slice(), name)?;
             match place {
-                Some(place) => match subjects::tell(alloc, &plan, place, sizes, budgets) {
+                Some(place) => match subjects::tell(alloc, &plan, place, sizes, bits, budgets) {
                     Ok(told) => Ok(Confirmed {
                         design: plan.design,
                         params: told.params,

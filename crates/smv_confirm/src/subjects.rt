@@ -12,6 +12,7 @@ ghost use Rattle.smv_confirm.specs.Ready.{IsReady, IsReadyDesign, own_of, unit_a
 
 use crate::cases::decide_cases;
 use law_concrete::sizes::given_are_sizes;
+use smv_bits::Bits;
 use smv_chosen_table::{base_defs, index_of};
 use smv_concrete::subjects::{
     Subject, no_times, nothing_used, own_count, whole_types, without_splits,
@@ -38,6 +39,7 @@ fn tell_cases(
     alloc: Global,
     subject: &Subject,
     cases: &[Case],
+    bits: Bits,
     budgets: Budgets,
 ) -> Result<Verdict, Refusal>
     requires ready { IsReadyDesign subject.now.design.now }
@@ -46,7 +48,7 @@ fn tell_cases(
     requires taken { cases_fault subject.now.design.now (unit_of subject.now) subject.now.sizes.now ≡ None }
     requires cases { classes_in cases.now ≡ cases_in subject.now }
     requires steps { 1 ≤ budgets.steps }
-    ensures verdict { IfOk result (IsToldAt subject.now.design.now (sizes_at subject.now.design.now.sets subject.now.sizes.now) (unit_of subject.now) budgets.nodes budgets.steps) }
+    ensures verdict { IfOk result (IsToldAt subject.now.design.now (sizes_at subject.now.design.now.sets subject.now.sizes.now) (unit_of subject.now) bits budgets.nodes budgets.steps) }
     ensures refuses { Refuses (given.width_fault subject.now.design.now (unit_of subject.now) subject.now.sizes.now) result }
 {
     given_are_sizes();
@@ -55,23 +57,28 @@ fn tell_cases(
         Some(fault) => Err(Refusal::Fault(fault)),
         None => {
             let shared = common_of(alloc, subject.design)?;
-            let verdict = decide_cases(alloc, subject, shared, cases, budgets)?;
+            let verdict = decide_cases(alloc, subject, shared, cases, bits, budgets)?;
             Ok(verdict)
         }
     }
 }
 
 // What is told of a unit, or the fault for which the sizes are refused.
-fn tell_subject(alloc: Global, subject: &Subject, budgets: Budgets) -> Result<Verdict, Refusal>
+fn tell_subject(
+    alloc: Global,
+    subject: &Subject,
+    bits: Bits,
+    budgets: Budgets,
+) -> Result<Verdict, Refusal>
     requires ready { IsReadyDesign subject.now.design.now }
     requires sizes { AreInRange subject.now.sizes.now }
     requires subject { IsSubject subject.now }
     requires steps { 1 ≤ budgets.steps }
-    ensures verdict { IfOk result (IsToldAt subject.now.design.now (sizes_at subject.now.design.now.sets subject.now.sizes.now) (unit_of subject.now) budgets.nodes budgets.steps) }
+    ensures verdict { IfOk result (IsToldAt subject.now.design.now (sizes_at subject.now.design.now.sets subject.now.sizes.now) (unit_of subject.now) bits budgets.nodes budgets.steps) }
     ensures refuses { Refuses (sizes_fault subject.now.design.now (unit_of subject.now) subject.now.sizes.now) result }
 {
     match at_sizes(alloc, subject) {
-        Ok(cases) => tell_cases(alloc, subject, cases.as_slice(), budgets),
+        Ok(cases) => tell_cases(alloc, subject, cases.as_slice(), bits, budgets),
         Err(refusal) => Err(refusal),
     }
 }
@@ -100,13 +107,14 @@ pub(crate) fn tell(
     plan: &Plan,
     place: usize,
     sizes: &[u16],
+    bits: Bits,
     budgets: Budgets,
 ) -> Result<Told, Refusal>
     requires ready { IsReady plan.now }
     requires place { place < length plan.now.units }
     requires sizes { AreInRange sizes.now }
     requires steps { 1 ≤ budgets.steps }
-    ensures verdict { IfOk result (λ told. IsToldAt plan.now.design (sizes_at plan.now.design.sets sizes.now) (unit_at plan.now place) budgets.nodes budgets.steps told.verdict) }
+    ensures verdict { IfOk result (λ told. IsToldAt plan.now.design (sizes_at plan.now.design.sets sizes.now) (unit_at plan.now place) bits budgets.nodes budgets.steps told.verdict) }
     ensures params { IfOk result (λ told. told.params ≡ (own_of plan.now place).params) }
     ensures refuses { Refuses (sizes_fault plan.now.design (unit_at plan.now place) sizes.now) result }
 {
@@ -126,7 +134,7 @@ pub(crate) fn tell(
         timed: &timed,
         table: table.as_slice(),
     };
-    match tell_subject(alloc, &subject, budgets) {
+    match tell_subject(alloc, &subject, bits, budgets) {
         Ok(verdict) => Ok(Told {
             params: leaf.params,
             verdict,

@@ -256,6 +256,31 @@ const CONFIRMED: &[Row] = &[
         2,
         "p: unknown steps\n case #0\n",
     ),
+    // Bits: those of wires stand apart where they are declared, and near one another without the word.
+    (
+        "confirm p 16 --nodes 20000",
+        "scalarset P undefined; module main() { a, b : array P of boolean; forall (i in P) b[i] := a[i]; p : assert G &[ b[i] = a[i] : i in P ]; }",
+        10,
+        "p: holds\n",
+    ),
+    (
+        "confirm p 2 --bits near",
+        "scalarset P undefined; module main() { a, b : array P of boolean; forall (i in P) b[i] := a[i]; p : assert G &[ b[i] = a[i] : i in P ]; }",
+        10,
+        "p: holds\n",
+    ),
+    (
+        "confirm p --bits=declared --nodes 1",
+        "module main() { x : boolean; init(x) := 0; next(x) := ~x; p : assert G (x | ~x); }",
+        2,
+        "p: unknown nodes 4\n",
+    ),
+    (
+        "confirm p --bits far",
+        "module main() { x : boolean; init(x) := 0; next(x) := ~x; p : assert G (x | ~x); }",
+        4,
+        "usage: smv prove|only|print|generated\n",
+    ),
     // Fault 35: a family with more than 256 elements, also one that nothing reads.
     (
         "confirm p 16",

@@ -122,7 +122,7 @@ fault_judged command text _ _ e (dues.too_long long) = judgements.too_long long
 fault_judged command text _ _ e (dues.malformed number at within fault) = judgements.malformed number at within fault
 fault_judged command text _ _ e (dues.faulty tree fault deciding is found) = judgements.faulty tree fault is found
 fault_judged _ text _ _ e (dues.unnamed name bits nodes steps none) = absurd (true≢false (sym e))
-fault_judged _ text _ _ e (dues.of_unit name sizes budgets number at is) = absurd (true≢false (sym e))
+fault_judged _ text _ _ e (dues.of_unit name sizes bits budgets number at is) = absurd (true≢false (sym e))
 
 pub text_fault : (text : List ℕ) (fault : Fault) → ((command : Command) → decides command ≡ true → IsFault command text fault.number fault.at) → IsFaultOf text fault.number fault.at
 text_fault text fault is = fault_judged (Prove Declared (record { nodes = 1; steps = 1 })) text fault.number fault.at refl (is (Prove Declared (record { nodes = 1; steps = 1 })) refl)

@@ -67,7 +67,7 @@ due_over (Generated copies) text long = refused 31 0 refl (too_long long)
 due_over (Proof budgets) text long = of_documents (refused_text budgets 31 0 (judgement.too_long long))
 due_over Check text long = of_documents (too_long_to_check long)
 due_over (Resume budgets) text long = of_documents (too_long_to_resume budgets long)
-due_over (Confirm name sizes budgets) text long = refused 31 0 refl (too_long long)
+due_over (Confirm name sizes bits budgets) text long = refused 31 0 refl (too_long long)
 
 at_first : (command : Command) (text : List ℕ) → fault_text [] (length_fault command) 0 ≡ fault_text text (length_fault command) 0
 at_first command text = refl

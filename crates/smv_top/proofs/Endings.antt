@@ -59,7 +59,7 @@ is_own (Generated copies) = refl
 is_own (Proof budgets) = refl
 is_own Check = refl
 is_own (Resume budgets) = refl
-is_own (Confirm name sizes budgets) = refl
+is_own (Confirm name sizes bits budgets) = refl
 
 -- the two statuses under which nothing is written
 abbrev is_read : Status → Bool
@@ -108,7 +108,7 @@ of_command command text _ _ (decided report is) = of_report (proved_by command) 
 of_command _ text _ _ (printed tree is) = refl
 of_command command text _ _ (refused number at own fault) = refl
 of_command command text due answer (of_documents is) = of_document command text due answer is
-of_command _ text _ _ (confirmed name sizes budgets tree unit told valid called is) = of_verdict told
+of_command _ text _ _ (confirmed name sizes bits budgets tree unit told valid called is) = of_verdict told
 
 -- a status under which no answer is written whole is never owed
 pub owed_not : (command : Command) (text : List ℕ) (due : Status) (answer : List ℕ) (other : Status) → IsDue command text due answer → is_answered other ≡ false → due ≢ other

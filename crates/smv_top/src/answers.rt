@@ -38,8 +38,9 @@ pub fn answer_to(alloc: Global, command: &Command, text: &[u8]) -> Result<Answer
         Command::Confirm {
             name,
             sizes,
+            bits,
             budgets,
-        } => confirmed(alloc, text, name, sizes.as_slice(), *budgets),
+        } => confirmed(alloc, text, name, sizes.as_slice(), *bits, *budgets),
     }
 }
 

@@ -9,28 +9,30 @@ ghost use Rattle.smv_answers.specs.Dues.{IsDue};
 use crate::limits::{LIMIT, TOO_LONG};
 use crate::refusals::refused_by;
 use smv_answers::{Answer, confirmed as told, refused};
+use smv_bits::Bits;
 use smv_confirm::{Confirmed, confirm};
 use smv_core::Name;
 use smv_problem::Budgets;
 use std::alloc::{AllocError, Global};
 
-/// The answer to a command that decides the unit of a name at given sizes.
+/// The answer to a command that decides the unit of a name at given sizes, over bits that stand so.
 pub fn confirmed(
     alloc: Global,
     text: &[u8],
     name: &Name,
     sizes: &[u16],
+    bits: Bits,
     budgets: Budgets,
 ) -> Result<Answer, AllocError>
     requires sizes { AreSizes sizes.now }
     requires in_range { AreInRange budgets }
-    ensures { IfOk result (λ answer. IsDue (variant.Confirm name.now sizes.now budgets) text.now answer.status answer.bytes.items) }
+    ensures { IfOk result (λ answer. IsDue (variant.Confirm name.now sizes.now bits budgets) text.now answer.status answer.bytes.items) }
 {
     if text.len() > LIMIT {
         return refused(alloc, text, TOO_LONG);
     }
     let name = name.as_bytes();
-    match confirm(alloc, text, name, sizes, budgets) {
+    match confirm(alloc, text, name, sizes, bits, budgets) {
         Ok(found) => told_of(alloc, name, found),
         Err(refusal) => refused_by(alloc, text, refusal),
     }

@@ -138,6 +138,7 @@ fn asked<S: Source, K: Sink>(
         Command::Confirm {
             name: _,
             sizes: _,
+            bits: _,
             budgets: _,
         } => of_source(alloc, command, source, sink),
     }
@@ -191,6 +192,7 @@ fn limit_for(command: &Command) -> usize
         Command::Confirm {
             name: _,
             sizes: _,
+            bits: _,
             budgets: _,
         } => LIMIT,
     }
@@ -218,6 +220,7 @@ fn too_long(command: &Command) -> &'static [u8]
         Command::Confirm {
             name: _,
             sizes: _,
+            bits: _,
             budgets: _,
         } => TEXT_TOO_LONG,
     }

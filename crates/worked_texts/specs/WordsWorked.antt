@@ -3,7 +3,7 @@ use Rattle.std.specs.Prelude.{◌≡◌, ℕ, List, [], ◌∷◌, map, codes, S
 use Rattle.clap.specs.Walk.{Text}
 use Rattle.smv_bits.specs.declared.Bits.TheVariants.{Near, Declared}
 use Rattle.smv_command.specs.declared.commands.Command.{Command}
-use Rattle.smv_command.specs.declared.commands.Command.TheVariants.{Prove, Only, Print, Generated}
+use Rattle.smv_command.specs.declared.commands.Command.TheVariants.{Prove, Only, Print, Generated, Confirm}
 use Rattle.smv_command.specs.Commands.{command_of}
 
 abbrev pub in_first : ℕ → List Text → List Text
@@ -99,6 +99,8 @@ other_bits =
     ∷ codes "prove --bits near --bits near"
     ∷ codes "only p --bits 1"
     ∷ codes "only --bits declared"
+    ∷ codes "confirm p 1 --bits far"
+    ∷ codes "confirm p --bits 1"
     ∷ codes "proof --bits declared"
     ∷ codes "--bits declared prove"
     ∷ []
@@ -138,6 +140,9 @@ bits =
     ∷ (codes "prove --bits near", Prove Near (record { nodes = 1000000; steps = 1000 }))
     ∷ (codes "only p --bits declared", Only (codes "p") Declared (record { nodes = 1000000; steps = 1000 }))
     ∷ (codes "only --bits=near -- declared", Only (codes "declared") Near (record { nodes = 1000000; steps = 1000 }))
+    ∷ (codes "confirm p 1", Confirm (codes "p") (1 ∷ []) Near (record { nodes = 1000000; steps = 1000 }))
+    ∷ (codes "confirm --bits=near p", Confirm (codes "p") [] Near (record { nodes = 1000000; steps = 1000 }))
+    ∷ (codes "confirm p 1 2 --bits declared --nodes 5", Confirm (codes "p") (1 ∷ 2 ∷ []) Declared (record { nodes = 5; steps = 1000 }))
     ∷ []
 
 -- the least and the most

@@ -21,7 +21,7 @@ tell-requires-clause-place c =
 pub returns-in-Ok-tell-clause-confirmed : goal.returns-in-Ok-tell-clause-confirmed
 returns-in-Ok-tell-clause-confirmed c =
     named.confirmed c.args.text.now c.args.name.now c.args.sizes.now c.in-Ok.plan c.in-Ok.ensures.plan c.in-Some.place
-    (ap (λ (us : List DesignUnit). place_of (is_named c.in-Ok.plan.design c.args.name.now) us) (sym c.as_slice.ensures) ∙ (sym c.in_ok-place-in-Ok.ensures ∙ c.in-Some.is)) c.args.budgets.nodes c.args.budgets.steps
+    (ap (λ (us : List DesignUnit). place_of (is_named c.in-Ok.plan.design c.args.name.now) us) (sym c.as_slice.ensures) ∙ (sym c.in_ok-place-in-Ok.ensures ∙ c.in-Some.is)) c.args.bits c.args.budgets.nodes c.args.budgets.steps
     (record { design = c.in-Ok.plan.design; params = c.in-Ok-tell.told.params; verdict = c.in-Ok-tell.told.verdict }) refl c.in-Ok-tell.ensures.params c.in-Ok-tell.ensures.refuses c.in-Ok-tell.ensures.verdict
 
 pub returns-in-Err-tell-clause-fault : goal.returns-in-Err-tell-clause-fault

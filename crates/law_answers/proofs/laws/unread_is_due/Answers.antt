@@ -15,4 +15,4 @@ returns c = unread
     unread (Some (Proof budgets)) text other due answer nothing is = absurd (true≢false nothing)
     unread (Some Check) text other due answer nothing is = absurd (true≢false nothing)
     unread (Some (Resume budgets)) text other due answer nothing is = absurd (true≢false nothing)
-    unread (Some (Confirm name sizes budgets)) text other due answer nothing is = absurd (true≢false nothing)
+    unread (Some (Confirm name sizes bits budgets)) text other due answer nothing is = absurd (true≢false nothing)

@@ -4,7 +4,7 @@ use Rattle.law_confirmed.proofs.Ready.{right-text, called-unit, as-many, are-siz
 use Rattle.law_confirmed.proofs.confirmations.confirmed_true_holds.Goals as goal
 
 pub returns : goal.returns
-returns c = λ text name given positive nodes steps x.
+returns c = λ text name given positive bits nodes steps x.
     let tree = x.tree in
     let f = (c.valid_texts_are_faultless.ensures text tree x.is_valid).0 in
     let right = right-text tree f in
@@ -19,6 +19,6 @@ returns c = λ text name given positive nodes steps x.
         u = u.0;
         is_unit = u.1;
         is_same = u.2;
-        holds = λ run is_run vs i. c.true_holds.ensures tree right u.0 x.unit u.2 (sizes_at d.sets given) are nodes steps x.is_told run is_run vs i;
+        holds = λ run is_run vs i. c.true_holds.ensures tree right u.0 x.unit u.2 (sizes_at d.sets given) are bits nodes steps x.is_told run is_run vs i;
       },
     )

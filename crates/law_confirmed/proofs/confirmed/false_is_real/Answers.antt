@@ -8,7 +8,7 @@ use Rattle.law_concrete.specs.Laws.{IsViolatingCase}
 use Rattle.law_confirmed.proofs.confirmed.false_is_real.Goals as goal
 
 pub returns : goal.returns
-returns c = λ text right u unit same sizes are nodes steps case elements path told.
+returns c = λ text right u unit same sizes are bits nodes steps case elements path told.
     let d = design_of_flat_text (flatten text) in
     let fails = told.1 in
     let is_case : Has (concrete_cases d sizes unit) case.classes = subst (λ cs. Has cs case.classes) (sym fails.stands) (Has-right fails.before first) in

@@ -1,5 +1,5 @@
 -- The matches are those of the described command, and where clap refuses the words it is for a fault that it finds in them.
-use Rattle.std.proofs.Common.{◌≡◌, ◌∙◌, List, [], ◌∷◌, Option, None, ap, is_some, map, refl, subst, sym, true, true≢false, inl, inr}
+use Rattle.std.proofs.Common.{◌≡◌, ◌∙◌, List, [], ◌∷◌, Option, None, ap, map, refl, subst, sym, true, true≢false, inl, inr}
 use Rattle.std.specs.Prelude.{option_and_then}
 use Rattle.std.proofs.lemmas.Result.{IfOk-weaker}
 use Rattle.std.specs.String.{string_bytes}

@@ -72,14 +72,15 @@ copies_ranged rows = go (number_in most_copies (codes "N") rows) (number_ranged 
     go None p = tt
     go (Some n) p = p n refl
 
-confirm_ranged : (rows : List Row) → InRange (option_map (λ p. Confirm p.0 p.1.0 p.1.1) (both (name_in rows) (both (sizes_in rows) (budgets_in rows))))
-confirm_ranged rows = go (name_in rows) (sizes_in rows) (budgets_in rows) (sizes_ranged (unwrap_or (all_of (codes "SIZE") rows) [])) (budgets_ranged rows)
+confirm_ranged : (rows : List Row) → InRange (option_map (λ p. Confirm p.0 p.1.0 p.1.1.0 p.1.1.1) (both (name_in rows) (both (sizes_in rows) (both (bits_in rows) (budgets_in rows)))))
+confirm_ranged rows = go (name_in rows) (sizes_in rows) (bits_in rows) (budgets_in rows) (sizes_ranged (unwrap_or (all_of (codes "SIZE") rows) [])) (budgets_ranged rows)
   where
-    go : (n : Option Text) (s : Option (List ℕ)) (b : Option Budgets) → AllInRange s → BothInRange b → InRange (option_map (λ p. Confirm p.0 p.1.0 p.1.1) (both n (both s b)))
-    go None s b p q = tt
-    go (Some n) None b p q = tt
-    go (Some n) (Some s) None p q = tt
-    go (Some n) (Some s) (Some b) p q = (p, q)
+    go : (n : Option Text) (s : Option (List ℕ)) (w : Option Bits) (b : Option Budgets) → AllInRange s → BothInRange b → InRange (option_map (λ p. Confirm p.0 p.1.0 p.1.1.0 p.1.1.1) (both n (both s (both w b))))
+    go None s w b p q = tt
+    go (Some n) None w b p q = tt
+    go (Some n) (Some s) None b p q = tt
+    go (Some n) (Some s) (Some w) None p q = tt
+    go (Some n) (Some s) (Some w) (Some b) p q = (p, q)
 
 only_ranged : (rows : List Row) → InRange (option_map (λ p. Only p.0 p.1.0 p.1.1) (both (name_in rows) (both (bits_in rows) (budgets_in rows))))
 only_ranged rows = go (name_in rows) (bits_in rows) (budgets_in rows) (budgets_ranged rows)

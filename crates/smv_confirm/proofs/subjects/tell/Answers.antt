@@ -28,7 +28,7 @@ tell_subject-requires-clause-subject c = record {
 pub returns-in-Ok-clause-verdict : goal.returns-in-Ok-clause-verdict
 returns-in-Ok-clause-verdict c =
     let d = c.args.plan.now.design in
-    subst (λ (u : DesignUnit). IsToldAt d (sizes_at d.sets c.args.sizes.now) u c.args.budgets.nodes c.args.budgets.steps c.in-Ok.verdict)
+    subst (λ (u : DesignUnit). IsToldAt d (sizes_at d.sets c.args.sizes.now) u c.args.bits c.args.budgets.nodes c.args.budgets.steps c.in-Ok.verdict)
     (unit-of c.args.plan.now c.requires.ready.is_whole c.args.place c.requires.place c.as_slice-4.result.now c.in_ok-leaf.leaf c.as_slice-4.ensures c.in_ok-leaf.ensures) c.in-Ok.ensures.verdict
 
 pub returns-in-Ok-clause-refuses : goal.returns-in-Ok-clause-refuses

@@ -2,7 +2,6 @@ use Rattle.std.proofs.Common.{List, sym, ap, subst, ◌∙◌}
 use Rattle.smv_core.specs.declared.flat.Class.{Class}
 use Rattle.law_obligations.specs.Sets.{Has}
 use Rattle.law_concrete.specs.Sizes.{width_fault_of}
-use Rattle.smv_bits.specs.declared.Bits.TheVariants.{Declared}
 use Rattle.law_reports.specs.Told.{IsToldBy}
 use Rattle.smv_concrete.specs.Subjects.{case_in, unit_of}
 use Rattle.smv_confirm.proofs.Given.{are-narrow, is-sized}
@@ -27,4 +26,4 @@ pub returns-in_ok-verdict-in-None-clause-refuses : goal.returns-in_ok-verdict-in
 returns-in_ok-verdict-in-None-clause-refuses c = let s = c.args.subject.now in ap (width_fault_of s.design.now (unit_of s) s.sizes.now) (sym c.requires.cases) ∙ (sym c.in_ok-wide.ensures ∙ c.in-None.is)
 
 pub returns-in_ok-verdict-in-None-clause-verdict : goal.returns-in_ok-verdict-in-None-clause-verdict
-returns-in_ok-verdict-in-None-clause-verdict c = subst (λ (list : List (List Class)). IsToldBy (case_in c.args.subject.now) Declared c.args.budgets.nodes c.args.budgets.steps list c.in_ok-verdict-in-None.verdict) c.requires.cases c.in_ok-verdict-in-None.ensures
+returns-in_ok-verdict-in-None-clause-verdict c = subst (λ (list : List (List Class)). IsToldBy (case_in c.args.subject.now) c.args.bits c.args.budgets.nodes c.args.budgets.steps list c.in_ok-verdict-in-None.verdict) c.requires.cases c.in_ok-verdict-in-None.ensures
