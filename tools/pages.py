@@ -63,8 +63,8 @@ WAVE = re.compile(r"(deodarwrench prove < \S+) \| smv_wave( table)?")
 LOOK = re.compile(r"smv_look ([^<|]+?) < (\S+)")
 # A command of which only the first lines are shown.
 HEAD = re.compile(r"\| head -n \d+$")
-# Words of the commands on documents and on units at given sizes, which have tests of their own.
-APART = re.compile(r"(?:proof|check|resume|confirm)\b")
+# Words of the commands on documents, on units at given sizes and by induction, which have tests of their own.
+APART = re.compile(r"(?:proof|check|resume|confirm|induct)\b")
 # What that program answers where a unit has no case of the number that is asked for.
 NO_CASE = re.compile(r"\S+: cases \d+\n")
 

@@ -6,3 +6,4 @@ pub mod OneReport
 mod Documents
 mod Confirmed
 pub mod Asked
+mod Inducted

@@ -11,7 +11,7 @@ use Rattle.smv_problem.specs.declared.report.UnitResult.{UnitResult}
 use Rattle.smv_problem.specs.declared.report.Report.{Report}
 use Rattle.law_reports.specs.Reports.{IsReportOf, IsResultOf, AreResultsFrom, told, told_of}
 use Rattle.smv_command.specs.declared.commands.Command.{Command}
-use Rattle.smv_command.specs.declared.commands.Command.TheVariants.{Prove, Only, Print, Generated, Proof, Check, Resume, Confirm}
+use Rattle.smv_command.specs.declared.commands.Command.TheVariants.{Prove, Only, Print, Generated, Proof, Check, Resume, Confirm, Induct}
 use Rattle.law_valid_texts.specs.Reports.{IsRightReport, IsReportOfUnit, IsUnitReport, script_of_tree, unit_named}
 use Rattle.law_valid_texts.specs.Laws.{OneTree, OneReport, OneUnitReport}
 use Rattle.law_document_answers.proofs.Verdicts.{verdict_is}
@@ -87,3 +87,4 @@ module _ (one_tree : OneTree) where
     one_for Check text r q is is_too o p f = absurd is
     one_for (Resume budgets) text r q is is_too o p f = absurd is
     one_for (Confirm name sizes bits budgets) text r q is is_too o p f = absurd is
+    one_for (Induct name var budgets) text r q is is_too o p f = absurd is

@@ -1,6 +1,7 @@
 -- What a call owes: its status and its whole answer, as a command and a text call for them.
 use Rattle.std.specs.Prelude.{◌≡◌, ◌≤◌, ◌<◌, ◌∷◌, ◌++◌, ℕ, Bool, true, false, List, [], codes, length, Option, Some, None, IfSome}
 use Rattle.std.specs.Io.KnownBytes.{Appends, Keeps}
+use Rattle.smv_core.specs.Values.{Name}
 use Rattle.smv_core.specs.declared.fault.Fault.{Fault}
 use Rattle.smv_core.specs.declared.tree.Text.{Text}
 use Rattle.smv_core.specs.declared.flat.Unit.{Unit as DesignUnit}
@@ -17,7 +18,7 @@ use Rattle.law_reports.specs.Lines.{report_lines}
 use Rattle.smv_report_lines.specs.Generated.{generated_lines}
 use Rattle.smv_gen.specs.Generated.{generated_text}
 use Rattle.smv_command.specs.declared.commands.Command.{Command}
-use Rattle.smv_command.specs.declared.commands.Command.TheVariants.{Prove, Only, Print, Generated, Proof, Check, Resume, Confirm}
+use Rattle.smv_command.specs.declared.commands.Command.TheVariants.{Prove, Only, Print, Generated, Proof, Check, Resume, Confirm, Induct}
 use Rattle.smv_command.specs.declared.exit.Status.{Status}
 use Rattle.smv_command.specs.declared.exit.Status.TheVariants as status
 pub use Rattle.law_document_answers.specs.Statuses.{is_false, is_unknown, status_of}
@@ -28,6 +29,7 @@ use Rattle.law_valid_texts.specs.Faults.{pass_fault}
 use Rattle.law_valid_texts.specs.Joined.{flat_design}
 use Rattle.law_valid_texts.specs.Reports.{IsValid, IsRightReport, IsUnitReport, HasNoUnit}
 use Rattle.law_confirmed.specs.Answers.{IsConfirmed, IsUnitFault, unit_called}
+pub use Rattle.law_induct_answers.specs.Dues.{IsInductDue}
 use Rattle.law_answers.specs.Confirmations.{confirmed_status, confirmed_lines}
 
 -- ---- the commands
@@ -42,6 +44,7 @@ reads (Some (Proof budgets)) = true
 reads (Some Check) = true
 reads (Some (Resume budgets)) = true
 reads (Some (Confirm name sizes bits budgets)) = true
+reads (Some (Induct name var budgets)) = true
 reads None = false
 
 -- a command that decides the units of its text
@@ -54,13 +57,15 @@ decides (Proof budgets) = true
 decides Check = false
 decides (Resume budgets) = false
 decides (Confirm name sizes bits budgets) = true
+decides (Induct name var budgets) = false
 
--- a command that reads or writes proof documents
-abbrev pub is_of_documents : Command → Bool
-is_of_documents (Proof budgets) = true
-is_of_documents Check = true
-is_of_documents (Resume budgets) = true
-is_of_documents _ = false
+-- a command that reads or writes proof documents, or proves by induction: what is due to it is said apart
+abbrev pub is_of_own : Command → Bool
+is_of_own (Proof budgets) = true
+is_of_own Check = true
+is_of_own (Resume budgets) = true
+is_of_own (Induct name var budgets) = true
+is_of_own _ = false
 
 -- the text of a command: the one that was read, or the generated one
 abbrev pub text_for : Command → List ℕ → List ℕ
@@ -72,6 +77,7 @@ text_for (Proof budgets) text = text
 text_for Check text = text
 text_for (Resume budgets) text = text
 text_for (Confirm name sizes bits budgets) text = text
+text_for (Induct name var budgets) text = text
 
 -- the most bytes that a command reads
 abbrev pub limit_for : Command → ℕ
@@ -107,6 +113,7 @@ IsReportFor (Proof budgets) text report = ⊥
 IsReportFor Check text report = ⊥
 IsReportFor (Resume budgets) text report = ⊥
 IsReportFor (Confirm name sizes bits budgets) text report = ⊥
+IsReportFor (Induct name var budgets) text report = ⊥
 
 -- the bits over which a command has its text decided
 abbrev pub bits_of : Command → Bits
@@ -118,6 +125,7 @@ bits_of (Proof budgets) = Declared
 bits_of Check = Declared
 bits_of (Resume budgets) = Declared
 bits_of (Confirm name sizes bits budgets) = bits
+bits_of (Induct name var budgets) = Declared
 
 -- the status where all that a command asks to decide is true
 abbrev pub proved_by : Command → Status
@@ -129,6 +137,7 @@ proved_by (Proof budgets) = status.Documented
 proved_by Check = status.Checked
 proved_by (Resume budgets) = status.Resumed
 proved_by (Confirm name sizes bits budgets) = status.HoldsHere
+proved_by (Induct name var budgets) = status.Inducted
 
 -- what is written of a report
 abbrev pub lines_for : Command → Report → List ℕ
@@ -140,6 +149,7 @@ lines_for (Proof budgets) report = report_lines report
 lines_for Check report = report_lines report
 lines_for (Resume budgets) report = report_lines report
 lines_for (Confirm name sizes bits budgets) report = report_lines report
+lines_for (Induct name var budgets) report = report_lines report
 
 -- ---- the answer
 
@@ -156,8 +166,9 @@ pub data IsFault : Command → List ℕ → ℕ → ℕ → Type 0 where
 pub data IsDue : Command → List ℕ → Status → List ℕ → Type 0 where
   decided : {command : Command} {text : List ℕ} (report : Report) → IsReportFor command text report → IsDue command text (status_of (proved_by command) report) (lines_for command report)
   printed : {text : List ℕ} (tree : Text) → IsTree text tree → IsDue Print text status.Printed (canonical tree)
-  refused : {command : Command} {text : List ℕ} (number at : ℕ) → is_of_documents command ≡ false → IsFault command text number at → IsDue command text status.Refused (fault_text text number at)
+  refused : {command : Command} {text : List ℕ} (number at : ℕ) → is_of_own command ≡ false → IsFault command text number at → IsDue command text status.Refused (fault_text text number at)
   of_documents : {command : Command} {text : List ℕ} {due : Status} {answer : List ℕ} → IsDocumentDue command text due answer → IsDue command text due answer
+  of_induction : {text : List ℕ} {due : Status} {answer : List ℕ} (name var : Name) (budgets : Budgets) → IsInductDue status.Inducted name var budgets text due answer → IsDue (Induct name var budgets) text due answer
   confirmed : {text : List ℕ} (name sizes : List ℕ) (bits : Bits) (budgets : Budgets) (tree : Text) (unit : DesignUnit) (verdict : Verdict) → IsValid text tree → unit_called (flat_design tree) name ≡ Some unit →
       IsConfirmed text name sizes bits budgets.nodes budgets.steps verdict → IsDue (Confirm name sizes bits budgets) text (confirmed_status verdict) (confirmed_lines (flat_design tree) unit name verdict)
 

@@ -1,8 +1,9 @@
 // Laws of answers, each the contract of a function that does nothing.
-ghost use Rattle.law_answers.specs.Laws.{CheckedDocumentIsSound, DocumentedTextIsSound, HoldsHereIsSo, OneStatus, ProvedIsSound, RealIsSo, ResumedDocumentIsSound, UnreadIsDue};
+ghost use Rattle.law_answers.specs.Laws.{CheckedDocumentIsSound, DocumentedTextIsSound, HoldsHereIsSo, InductedTextIsSound, OneStatus, ProvedIsSound, RealIsSo, ResumedDocumentIsSound, UnreadIsDue};
 
 use law_confirmed::confirmations::{confirmed_false_is_real, confirmed_true_holds};
 use law_document_answers::documents::{due_is_sound, one_due};
+use law_induct_answers::answers::{inducted_is_sound, one_induction_due};
 use law_valid_texts::valid_texts::{one_tree, reports_agree, right_reports_are_sound};
 use smv_parse::one_answer;
 
@@ -14,6 +15,7 @@ pub fn one_status()
     one_tree();
     reports_agree();
     one_due();
+    one_induction_due();
 }
 
 /// The headline: where it is due that all is proved, the text is sound.
@@ -30,6 +32,13 @@ pub fn documents_are_sound()
     ensures resumed { ResumedDocumentIsSound }
 {
     due_is_sound();
+}
+
+/// Where it is due that a text is proved by induction, it is sound.
+pub fn induction_is_sound()
+    ensures { InductedTextIsSound }
+{
+    inducted_is_sound();
 }
 
 /// Where it is due that a unit holds at the given sizes, no run of them breaks an instance of it; where that it is real, the part of such a run is shown that breaks one, and no shorter run does.

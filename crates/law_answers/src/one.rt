@@ -2,6 +2,7 @@
 ghost use Rattle.law_answers.specs.OneAnswer.{OneAnswer};
 
 use law_document_answers::documents::one_due;
+use law_induct_answers::answers::one_induction_due;
 use law_valid_texts::valid_texts::{one_tree, reports_agree};
 use smv_parse::one_answer as one_parse;
 
@@ -13,4 +14,5 @@ pub fn one_answer()
     one_tree();
     reports_agree();
     one_due();
+    one_induction_due();
 }

@@ -1,6 +1,6 @@
 pub mod Statuses
 pub mod Verdicts
-mod Alike
+pub mod Alike
 pub mod Old
 mod One
 mod Written

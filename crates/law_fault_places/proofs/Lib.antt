@@ -2,6 +2,7 @@ pub mod PassLaws
 pub mod TextTrees
 pub mod SizeFaults
 pub mod Refusals
+pub mod Inductions
 pub mod TreeLists
 pub mod Firsts
 pub mod TreeForms

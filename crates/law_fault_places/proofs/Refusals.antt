@@ -9,7 +9,7 @@ use Rattle.smv_problem.specs.declared.report.Report.{Report}
 use Rattle.smv_parse.specs.Laws.{IsWithin}
 use Rattle.smv_report.specs.Lines.{fault_text}
 use Rattle.smv_command.specs.declared.commands.Command.{Command}
-use Rattle.smv_command.specs.declared.commands.Command.TheVariants.{Prove, Only, Print, Generated, Proof, Check, Resume, Confirm}
+use Rattle.smv_command.specs.declared.commands.Command.TheVariants.{Prove, Only, Print, Generated, Proof, Check, Resume, Confirm, Induct}
 use Rattle.smv_command.specs.declared.exit.Status.{Status}
 use Rattle.smv_command.specs.declared.exit.Status.TheVariants as status
 use Rattle.law_valid_texts.specs.Faults.{pass_fault}
@@ -20,7 +20,7 @@ use Rattle.law_document_answers.specs.Dues.{documented, open_report, refused_tex
 use Rattle.law_answers.proofs.Answers.{of_ones}
 use Rattle.law_answers.specs.Confirmations.{confirmed_status}
 use Rattle.smv_bits.specs.declared.Bits.TheVariants.{Declared}
-use Rattle.law_answers.specs.Dues.{IsFault, too_long, malformed, faulty, unnamed, of_unit, IsDue, IsDocumentDue, confirmed, decided, is_of_documents, of_documents, printed, refused, status_of, proved_by, is_false, is_unknown}
+use Rattle.law_answers.specs.Dues.{IsFault, too_long, malformed, faulty, unnamed, of_unit, IsDue, IsDocumentDue, confirmed, decided, is_of_own, of_documents, of_induction, printed, refused, status_of, proved_by, is_false, is_unknown}
 use Rattle.law_fault_places.specs.PassFaults.{IsFaultWithin, PassFaultsAreWithin}
 use Rattle.law_fault_places.specs.FlatPlaces.{DesignsAreWithin, FlattenedTextsAreWithin}
 use Rattle.law_fault_places.specs.FaultsOfTexts.{IsFaultUnder, TreesOfTextsAreWithin, FaultsAreWithin}
@@ -39,6 +39,7 @@ under (Proof budgets) n number at is = is
 under Check n number at is = is
 under (Resume budgets) n number at is = is
 under (Confirm name sizes bits budgets) n number at is = inl is
+under (Induct name var budgets) n number at is = is
 
 module _ (form : IsWithin) (trees : TreesOfTextsAreWithin) (passes : PassFaultsAreWithin) (flat : FlattenedTextsAreWithin) (designs : DesignsAreWithin) where
   pub fault-within : (command : Command) (text : List ℕ) (number at : ℕ) → IsFault command text number at → IsFaultUnder command (length text) number at
@@ -51,7 +52,7 @@ module _ (form : IsWithin) (trees : TreesOfTextsAreWithin) (passes : PassFaultsA
   fault-within _ text _ _ (unnamed name bits nodes steps none) = record { lowest = omega arith; highest = omega arith; place = omega arith }
   fault-within _ text _ _ (of_unit name sizes bits budgets number at fault) = unit-fault-within trees flat designs text name sizes number at fault
 
-abbrev is_refused : Status → Bool
+abbrev pub is_refused : Status → Bool
 is_refused status.Refused = true
 is_refused _ = false
 
@@ -64,6 +65,7 @@ proved-not (Proof budgets) = refl
 proved-not Check = refl
 proved-not (Resume budgets) = refl
 proved-not (Confirm name sizes bits budgets) = refl
+proved-not (Induct name var budgets) = refl
 
 decided-not : (command : Command) (report : Report) → is_refused (status_of (proved_by command) report) ≡ false
 decided-not command report = by (list_any (λ (u : UnitResult). is_false u.verdict) report.units) (list_any (λ (u : UnitResult). is_unknown u.verdict) report.units)
@@ -83,17 +85,18 @@ confirmed-not (verdict.UnknownSteps case) = refl
 abbrev Tells : Command → List ℕ → List ℕ → Type 0
 Tells command text answer = (number : ℕ) × (at : ℕ) × IsFault command text number at × IsFaultUnder command (length text) number at × (answer ≡ fault_text text number at)
 
-pub refusal-tells : FaultsAreWithin → (command : Command) (text : List ℕ) (due : Status) (answer : List ℕ) → is_of_documents command ≡ false → IsDue command text due answer → is_refused due ≡ true → Tells command text answer
+pub refusal-tells : FaultsAreWithin → (command : Command) (text : List ℕ) (due : Status) (answer : List ℕ) → is_of_own command ≡ false → IsDue command text due answer → is_refused due ≡ true → Tells command text answer
 refusal-tells within command text _ _ own (decided report h) e = absurd (true≢false (sym e ∙ decided-not command report))
 refusal-tells within _ text _ _ own (printed tree h) e = absurd (true≢false (sym e))
 refusal-tells within command text _ _ own (refused number at other h) e = (number, at, h, within command text number at h, refl)
 refusal-tells within _ text _ _ own (confirmed name sizes bits budgets tree unit v valid called h) e = absurd (true≢false (sym e ∙ confirmed-not v))
+refusal-tells within _ text due answer own (of_induction name var budgets h) e = absurd (true≢false own)
 refusal-tells within command text due answer own (of_documents h) e = absurd (true≢false (sym (of_ones command text due answer h) ∙ own))
 
 -- ---- of documents
 
 -- the first fault of a design is that of its text under a command that decides
-as-fault : (text : List ℕ) (number at : ℕ) → IsFaultOf text number at → IsFault (Prove Declared (record { nodes = 1; steps = 1 })) text number at
+pub as-fault : (text : List ℕ) (number at : ℕ) → IsFaultOf text number at → IsFault (Prove Declared (record { nodes = 1; steps = 1 })) text number at
 as-fault text _ _ (judgement.too_long long) = too_long long
 as-fault text _ _ (judgement.malformed number at short has) = malformed number at short has
 as-fault text _ _ (judgement.faulty tree fault is found) = faulty tree fault refl is found
@@ -104,7 +107,7 @@ TellsDesign answer = (text : List ℕ) × (number : ℕ) × (at : ℕ) × IsFaul
 of-design : FaultsAreWithin → (text : List ℕ) (number at : ℕ) → IsFaultOf text number at → TellsDesign (fault_text text number at)
 of-design within text number at fault = (text, number, at, fault, within (Prove Declared (record { nodes = 1; steps = 1 })) text number at (as-fault text number at fault), refl)
 
-open-not : (proved : Status) (report : Report) → is_refused proved ≡ false → is_refused (status_of proved report) ≡ false
+pub open-not : (proved : Status) (report : Report) → is_refused proved ≡ false → is_refused (status_of proved report) ≡ false
 open-not proved report not = by (list_any (λ (u : UnitResult). is_false u.verdict) report.units) (list_any (λ (u : UnitResult). is_unknown u.verdict) report.units)
   where
     by : (b c : Bool) → is_refused (cond b status.SomeFalse (cond c status.SomeUnknown proved)) ≡ false

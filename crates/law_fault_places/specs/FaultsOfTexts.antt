@@ -1,13 +1,16 @@
--- Each refusal of a text has a number of 1 to 31, or for the sizes of a confirmation 34 or 35, and a place of at most the text's length.
+-- Each refusal of a text has a number of 1 to 31, or for the sizes of a confirmation 34 or 35, or for an induction 36, and a place of at most the text's length.
 use Rattle.std.specs.Prelude.{◌≡◌, ◌≤◌, ◌⊎◌, ℕ, false, List, length}
+use Rattle.smv_core.specs.Values.{Name}
 use Rattle.smv_core.specs.declared.tree.Text.{Text}
 use Rattle.smv_parse.specs.Spelling.{SpellsText}
+use Rattle.smv_problem.specs.declared.report.Budgets.{Budgets}
 use Rattle.smv_report.specs.Lines.{fault_text}
 use Rattle.smv_command.specs.declared.commands.Command.{Command}
 use Rattle.smv_command.specs.declared.commands.Command.TheVariants.{Confirm}
 use Rattle.smv_command.specs.declared.exit.Status.TheVariants as status
 use Rattle.law_judgements.specs.Judgements.{IsFaultOf}
-use Rattle.law_answers.specs.Dues.{IsFault, IsDue, IsDocumentDue, is_of_documents}
+use Rattle.law_strengthened_texts.specs.Stronger.{Stronger, back, IsStrengthened}
+use Rattle.law_answers.specs.Dues.{IsFault, IsDue, IsDocumentDue, IsInductDue, is_of_own}
 use Rattle.law_fault_places.specs.TreePlaces.{TextIsWithin}
 use Rattle.law_fault_places.specs.PassFaults.{IsFaultWithin}
 
@@ -32,10 +35,19 @@ FaultsAreWithin = (command : Command) (text : List ℕ) (number at : ℕ) → Is
 
 -- and a refusal that is due to a command on texts tells such a fault, and nothing else
 abbrev pub RefusalsTellFaults : Type 0
-RefusalsTellFaults = (command : Command) (text answer : List ℕ) → is_of_documents command ≡ false → IsDue command text status.Refused answer →
+RefusalsTellFaults = (command : Command) (text answer : List ℕ) → is_of_own command ≡ false → IsDue command text status.Refused answer →
     (number : ℕ) × (at : ℕ) × IsFault command text number at × IsFaultUnder command (length text) number at × (answer ≡ fault_text text number at)
 
 -- a refusal that is due of documents tells a fault of the design that was read, or that there are too many bytes
 abbrev pub DocumentRefusalsTellFaults : Type 0
 DocumentRefusalsTellFaults = (command : Command) (bytes answer : List ℕ) → IsDocumentDue command bytes status.Refused answer →
     ((text : List ℕ) × (number : ℕ) × (at : ℕ) × IsFaultOf text number at × IsFaultWithin (length text) number at × (answer ≡ fault_text text number at)) ⊎ (answer ≡ fault_text bytes 33 0)
+
+-- an offset of a strengthened text is carried back into the text that was read
+abbrev pub PlacesAreCarriedBack : Type 0
+PlacesAreCarriedBack = (text : List ℕ) (name var : Name) (s : Stronger) (at : ℕ) → IsStrengthened text name var s → at ≤ length s.text → back s at ≤ length text
+
+-- a refusal that is due to an induction tells a fault of the text or of the strengthened one, at a place of the text that was read, or that no induction of the text is this one
+abbrev pub InductionRefusalsTellFaults : Type 0
+InductionRefusalsTellFaults = (name var : Name) (budgets : Budgets) (text answer : List ℕ) → IsInductDue status.Inducted name var budgets text status.Refused answer →
+    ((number : ℕ) × (at : ℕ) × IsFaultWithin (length text) number at × (answer ≡ fault_text text number at)) ⊎ (answer ≡ fault_text text 36 0)

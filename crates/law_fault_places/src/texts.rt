@@ -1,9 +1,10 @@
 // Laws of the places of faults, each the contract of a function that does nothing.
-ghost use Rattle.law_fault_places.specs.FaultsOfTexts.{TreesOfTextsAreWithin, FaultsAreWithin, RefusalsTellFaults, DocumentRefusalsTellFaults};
+ghost use Rattle.law_fault_places.specs.FaultsOfTexts.{TreesOfTextsAreWithin, FaultsAreWithin, RefusalsTellFaults, DocumentRefusalsTellFaults, PlacesAreCarriedBack, InductionRefusalsTellFaults};
 
 use crate::flat::{designs_are_within, flattened_texts_are_within};
 use crate::passes::pass_faults_are_within;
 use crate::trees::spelled_trees_are_within;
+use law_strengthened_texts::laws::stronger_is_placed;
 use smv_parse::one_answer;
 
 /// Each word, number and sign of the tree that a text spells stands within the text.
@@ -24,10 +25,20 @@ pub fn faults_are_within()
     designs_are_within();
 }
 
-/// A refusal that is due tells a fault of such a number and place.
+/// An offset of a strengthened text is carried back into the text that was read.
+pub fn places_are_carried_back()
+    ensures { PlacesAreCarriedBack }
+{
+    trees_of_texts_are_within();
+    stronger_is_placed();
+}
+
+/// A refusal that is due tells a fault of such a number and place; one of an induction may tell 36 at the front.
 pub fn refusals_tell_faults()
     ensures texts { RefusalsTellFaults }
     ensures documents { DocumentRefusalsTellFaults }
+    ensures inductions { InductionRefusalsTellFaults }
 {
     faults_are_within();
+    places_are_carried_back();
 }

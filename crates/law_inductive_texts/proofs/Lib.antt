@@ -6,3 +6,4 @@ pub mod Types
 pub mod Inductive
 pub mod Whole
 pub mod Theorem
+pub mod One

@@ -199,6 +199,11 @@ pub fn reads(command: &Command) -> bool
             bits: _,
             budgets: _,
         } => true,
+        Command::Induct {
+            name: _,
+            var: _,
+            budgets: _,
+        } => true,
     }
 }
 
@@ -225,6 +230,11 @@ fn written(alloc: Global, command: &Command, report: &Report) -> Result<Vec<u8>,
             name: _,
             sizes: _,
             bits: _,
+            budgets: _,
+        } => lines(alloc, report),
+        Command::Induct {
+            name: _,
+            var: _,
             budgets: _,
         } => lines(alloc, report),
     }
@@ -255,6 +265,11 @@ fn proved_by(command: &Command) -> Status
             bits: _,
             budgets: _,
         } => Status::HoldsHere,
+        Command::Induct {
+            name: _,
+            var: _,
+            budgets: _,
+        } => Status::Inducted,
     }
 }
 

@@ -5,9 +5,9 @@ use Rattle.std.proofs.lemmas.Slice.Eq.{bytes_eq-Decides}
 use Rattle.std.specs.Prelude.{option_map}
 use Rattle.clap.specs.Walk.{Row, Text}
 use Rattle.smv_problem.specs.declared.report.Budgets.{Budgets}
-use Rattle.smv_command.specs.declared.commands.Command.TheVariants.{Prove, Only, Print, Generated, Proof, Check, Resume, Confirm}
+use Rattle.smv_command.specs.declared.commands.Command.TheVariants.{Prove, Only, Print, Generated, Proof, Check, Resume, Confirm, Induct}
 use Rattle.smv_command.specs.Ranges.{most_copies}
-use Rattle.smv_command.specs.Commands.{bits_in, both, budgets_in, has_bits, misnames, name_in, named, number_in, sizes_in}
+use Rattle.smv_command.specs.Commands.{bits_in, both, budgets_in, has_bits, misnames, name_in, named, number_in, sizes_in, var_in}
 use Rattle.smv_command.proofs.Values.{both_some, map_some}
 
 pub prove_is : (rows : List Row) → named (codes "prove") rows ≡ option_map (λ p. Prove p.0 p.1) (both (bits_in rows) (budgets_in rows))
@@ -42,11 +42,15 @@ pub confirm_is : (rows : List Row) → named (codes "confirm") rows ≡ option_m
 unfolding named
 confirm_is rows = refl
 
+pub induct_is : (rows : List Row) → named (codes "induct") rows ≡ option_map (λ p. Induct p.0 p.1.0 p.1.1) (both (name_in rows) (both (var_in rows) (budgets_in rows)))
+unfolding named
+induct_is rows = refl
+
 pub no_name : (word : Text) (rows : List Row) → bytes_eq word (codes "prove") ≡ false → bytes_eq word (codes "only") ≡ false → bytes_eq word (codes "print") ≡ false
     → bytes_eq word (codes "generated") ≡ false → bytes_eq word (codes "proof") ≡ false → bytes_eq word (codes "check") ≡ false → bytes_eq word (codes "resume") ≡ false → bytes_eq word (codes "confirm") ≡ false
-    → named word rows ≡ None
+    → bytes_eq word (codes "induct") ≡ false → named word rows ≡ None
 unfolding named
-no_name word rows t1 t2 t3 t4 t5 t6 t7 t8 = rw (t1, t2, t3, t4, t5, t6, t7, t8) refl
+no_name word rows t1 t2 t3 t4 t5 t6 t7 t8 t9 = rw (t1, t2, t3, t4, t5, t6, t7, t8, t9) refl
 
 -- ---- the same at a word that is the name
 
@@ -77,6 +81,10 @@ at_resume word rows e = at_word word (codes "resume") rows e ∙ resume_is rows
 pub at_confirm : (word : Text) (rows : List Row) → bytes_eq word (codes "confirm") ≡ true
     → named word rows ≡ option_map (λ p. Confirm p.0 p.1.0 p.1.1.0 p.1.1.1) (both (name_in rows) (both (sizes_in rows) (both (bits_in rows) (budgets_in rows))))
 at_confirm word rows e = at_word word (codes "confirm") rows e ∙ confirm_is rows
+
+pub at_induct : (word : Text) (rows : List Row) → bytes_eq word (codes "induct") ≡ true
+    → named word rows ≡ option_map (λ p. Induct p.0 p.1.0 p.1.1) (both (name_in rows) (both (var_in rows) (budgets_in rows)))
+at_induct word rows e = at_word word (codes "induct") rows e ∙ induct_is rows
 
 -- ---- bits that are named, or need no name
 
@@ -138,6 +146,14 @@ given_to_confirm word rows e there =
     let (sizes, most) = both_some (sizes_in rows) bits_and_budgets more in
     let (bits, budgets) = both_some (bits_in rows) (budgets_in rows) most in
     (name, sizes, bits, budgets)
+
+pub given_to_induct : (word : Text) (rows : List Row) → bytes_eq word (codes "induct") ≡ true → is_some (named word rows) ≡ true
+    → (is_some (name_in rows) ≡ true) × (is_some (var_in rows) ≡ true) × (is_some (budgets_in rows) ≡ true)
+given_to_induct word rows e there =
+    let var_and_budgets = both (var_in rows) (budgets_in rows) in
+    let (name, more) = both_some (name_in rows) var_and_budgets (map_some (λ p. Induct p.0 p.1.0 p.1.1) (both (name_in rows) var_and_budgets) (ap is_some (sym (at_induct word rows e)) ∙ there)) in
+    let (var, budgets) = both_some (var_in rows) (budgets_in rows) more in
+    (name, var, budgets)
 
 -- a command that is there has its bits named
 pub some_names_bits : (word : Text) (rows : List Row) → is_some (named word rows) ≡ true → misnames word rows ≡ false

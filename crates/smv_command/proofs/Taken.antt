@@ -11,11 +11,11 @@ use Rattle.clap.proofs.WalkLemmas.{both as both_true}
 use Rattle.smv_command.specs.Ranges.{most_nodes, most_steps, most_copies, most_size}
 use Rattle.smv_command.specs.Built.{IsGiven}
 use Rattle.smv_command.specs.CommandLine as line
-use Rattle.smv_command.specs.Commands.{bits_in, both, budgets_in, misnames, name_in, named, number, number_in, numbers, sizes_in}
-use Rattle.smv_command.specs.declared.commands.Command.TheVariants.{Prove, Only, Generated, Proof, Resume, Confirm}
+use Rattle.smv_command.specs.Commands.{bits_in, both, budgets_in, misnames, name_in, named, number, number_in, numbers, sizes_in, var_in}
+use Rattle.smv_command.specs.declared.commands.Command.TheVariants.{Prove, Only, Generated, Proof, Resume, Confirm, Induct}
 use Rattle.smv_command.proofs.Rows.{AllFit, Among, EachKnown, HasValue, IsKnown, are_known, built_entered, given_pass, has_default, has_given, kept_by_default, level_is, value_of}
 use Rattle.smv_command.proofs.Values.{both_given, both_there, map_given, number_given, word_given}
-use Rattle.smv_command.proofs.ByName.{prove_is, only_is, print_is, generated_is, proof_is, check_is, resume_is, confirm_is}
+use Rattle.smv_command.proofs.ByName.{prove_is, only_is, print_is, generated_is, proof_is, check_is, resume_is, confirm_is, induct_is}
 
 -- the subcommands as a parse sees them, once the command is built
 abbrev above : Shape
@@ -42,6 +42,9 @@ copies = with_index 1 (filled line.copies)
 abbrev sizes : Rule
 sizes = with_index 2 (filled line.sizes)
 
+abbrev var : Rule
+var = with_index 2 (filled line.var)
+
 abbrev budgets : List Rule
 budgets = nodes ∷ steps ∷ []
 
@@ -61,6 +64,10 @@ each_of_generated = (record { by_id = refl; valued = refl }, tt)
 each_of_confirm : EachKnown (name ∷ sizes ∷ bits ∷ budgets) (name ∷ sizes ∷ bits ∷ budgets)
 each_of_confirm =
     (record { by_id = refl; valued = refl }, (record { by_id = refl; valued = refl }, (record { by_id = refl; valued = refl }, (record { by_id = refl; valued = refl }, (record { by_id = refl; valued = refl }, tt)))))
+
+each_of_induct : EachKnown (name ∷ var ∷ budgets) (name ∷ var ∷ budgets)
+each_of_induct =
+    (record { by_id = refl; valued = refl }, (record { by_id = refl; valued = refl }, (record { by_id = refl; valued = refl }, (record { by_id = refl; valued = refl }, tt))))
 
 nodes_given : (rows : List Row) → HasValue nodes rows → is_some (number_in most_nodes (codes "nodes") rows) ≡ true
 nodes_given rows v = number_given most_nodes (codes "nodes") rows v.written (omega arith) v.one (accepts-Accepts false (Signed (pos 1) (pos most_nodes)) v.written v.passing)
@@ -153,6 +160,18 @@ confirm_given rest e right =
     (both_there (bits_in rows) (budgets_in rows) (named_there (is_some (bits_in rows)) right)
     (budgets_given c (with_default (with_default (with_default (settled c (walk c [] nothing_held rest).held).rows name) sizes) bits) each_of_confirm.1.1.1.0 each_of_confirm.1.1.1.1.0 level.fits)))
 
+induct_given : (rest : List Text) → Gives rest (seen line.induct)
+induct_given rest e right =
+    let c = name ∷ var ∷ budgets in
+    let rows = rows_after c [] rest in
+    let level = level_is (seen line.induct) [] rest false [] (are_known c each_of_induct) each_of_induct e in
+    let given = absent _ _ level.given in
+    let named = value_of c name rows each_of_induct.0 level.fits (has_given (codes "NAME") rows given.0) in
+    let varied = value_of c var rows each_of_induct.1.0 level.fits (has_given (codes "VAR") rows (absent _ _ given.1).0) in
+    ap is_some (induct_is rows) ∙ both_given (λ p. Induct p.0 p.1.0 p.1.1) (name_in rows) (both (var_in rows) (budgets_in rows)) (ap is_some named.first)
+    (both_there (var_in rows) (budgets_in rows) (ap is_some varied.first)
+    (budgets_given c (with_default (with_default (settled c (walk c [] nothing_held rest).held).rows name) var) each_of_induct.1.1.0 each_of_induct.1.1.1.0 level.fits))
+
 among_gives : (s : Shape) (rest : List Text) → Among s (built line.smv).subs → Gives rest s
 among_gives s rest (inl is) = subst (Gives rest) (sym is) (prove_given rest)
 among_gives s rest (inr (inl is)) = subst (Gives rest) (sym is) (only_given rest)
@@ -162,7 +181,8 @@ among_gives s rest (inr (inr (inr (inr (inl is))))) = subst (Gives rest) (sym is
 among_gives s rest (inr (inr (inr (inr (inr (inl is)))))) = subst (Gives rest) (sym is) (λ e right. ap is_some (check_is (rows_after [] [] rest)))
 among_gives s rest (inr (inr (inr (inr (inr (inr (inl is))))))) = subst (Gives rest) (sym is) (resume_given rest)
 among_gives s rest (inr (inr (inr (inr (inr (inr (inr (inl is)))))))) = subst (Gives rest) (sym is) (confirm_given rest)
-among_gives s rest (inr (inr (inr (inr (inr (inr (inr (inr never)))))))) = absurd never
+among_gives s rest (inr (inr (inr (inr (inr (inr (inr (inr (inl is))))))))) = subst (Gives rest) (sym is) (induct_given rest)
+among_gives s rest (inr (inr (inr (inr (inr (inr (inr (inr (inr never))))))))) = absurd never
 
 -- words without a fault name a command, unless they misname its bits
 pub taken_given : (words : List Text) → fault_of line.smv words ≡ [] → IsGiven (subcommand_of line.smv words)

@@ -31,6 +31,9 @@ steps = option (codes "steps") most_steps (codes "1000")
 abbrev pub name : Rule
 name = positional (codes "NAME")
 
+abbrev pub var : Rule
+var = positional (codes "VAR")
+
 abbrev pub copies : Rule
 copies = numbered most_copies (positional (codes "N"))
 
@@ -65,6 +68,9 @@ resume = subcommand (codes "resume") (nodes ∷ steps ∷ [])
 abbrev pub confirm : Shape
 confirm = subcommand (codes "confirm") (name ∷ sizes ∷ bits ∷ nodes ∷ steps ∷ [])
 
+abbrev pub induct : Shape
+induct = subcommand (codes "induct") (name ∷ var ∷ nodes ∷ steps ∷ [])
+
 -- no program's name stands before the words, a subcommand is required, and nothing asks for help or the version
 abbrev pub bare : Shape
 bare = record (new_shape (codes "smv")) {
@@ -76,4 +82,4 @@ bare = record (new_shape (codes "smv")) {
 }
 
 abbrev pub smv : App
-smv = record { top = record bare { is_leaf = false }; subs = prove ∷ only ∷ print ∷ generated ∷ proof ∷ check ∷ resume ∷ confirm ∷ [] }
+smv = record { top = record bare { is_leaf = false }; subs = prove ∷ only ∷ print ∷ generated ∷ proof ∷ check ∷ resume ∷ confirm ∷ induct ∷ [] }

@@ -11,7 +11,7 @@ use Rattle.smv_bits.specs.declared.Bits.{Bits}
 use Rattle.smv_bits.specs.declared.Bits.TheVariants.{Near, Declared}
 use Rattle.smv_problem.specs.declared.report.Budgets.{Budgets}
 use Rattle.smv_command.specs.declared.commands.Command.{Command}
-use Rattle.smv_command.specs.declared.commands.Command.TheVariants.{Prove, Only, Print, Generated, Proof, Check, Resume, Confirm}
+use Rattle.smv_command.specs.declared.commands.Command.TheVariants.{Prove, Only, Print, Generated, Proof, Check, Resume, Confirm, Induct}
 use Rattle.smv_command.specs.Ranges.{most_nodes, most_steps, most_copies, most_size}
 use Rattle.smv_command.specs.CommandLine.{smv}
 
@@ -43,6 +43,9 @@ sizes_in rows = numbers most_size (unwrap_or (all_of (codes "SIZE") rows) [])
 abbrev pub name_in : List Row → Option Text
 name_in rows = first_of (codes "NAME") rows
 
+abbrev pub var_in : List Row → Option Text
+var_in rows = first_of (codes "VAR") rows
+
 -- the bits that a word names
 abbrev pub bits_named : Text → Option Bits
 bits_named word = if bytes_eq word (codes "near") then Some Near else (if bytes_eq word (codes "declared") then Some Declared else None)
@@ -61,7 +64,8 @@ named word rows =
     else (if bytes_eq word (codes "check") then Some Check
     else (if bytes_eq word (codes "resume") then option_map Resume (budgets_in rows)
     else (if bytes_eq word (codes "confirm") then option_map (λ p. Confirm p.0 p.1.0 p.1.1.0 p.1.1.1) (both (name_in rows) (both (sizes_in rows) (both (bits_in rows) (budgets_in rows))))
-    else None)))))))
+    else (if bytes_eq word (codes "induct") then option_map (λ p. Induct p.0 p.1.0 p.1.1) (both (name_in rows) (both (var_in rows) (budgets_in rows)))
+    else None))))))))
 
 -- a subcommand that has bits
 abbrev pub has_bits : Text → Bool

@@ -19,7 +19,8 @@ pub(crate) fn smv<'a>(alloc: Global) -> Result<Command<'a>, AllocError>
         .subcommand(proof(alloc)?)?
         .subcommand(Command::new(alloc, "check"))?
         .subcommand(resume(alloc)?)?
-        .subcommand(confirm(alloc)?)
+        .subcommand(confirm(alloc)?)?
+        .subcommand(induct(alloc)?)
 }
 
 // The command before its subcommands.
@@ -86,10 +87,26 @@ fn confirm<'a>(alloc: Global) -> Result<Command<'a>, AllocError>
         .arg(steps(alloc))
 }
 
+fn induct<'a>(alloc: Global) -> Result<Command<'a>, AllocError>
+    ensures { IfOk result (HasShape line.induct) }
+{
+    Command::new(alloc, "induct")
+        .arg(name(alloc))?
+        .arg(var(alloc))?
+        .arg(nodes(alloc))?
+        .arg(steps(alloc))
+}
+
 fn name<'a>(alloc: Global) -> Arg<'a>
     ensures { HasRule line.name result }
 {
     Arg::new(alloc, "NAME").required(true)
+}
+
+fn var<'a>(alloc: Global) -> Arg<'a>
+    ensures { HasRule line.var result }
+{
+    Arg::new(alloc, "VAR").required(true)
 }
 
 fn copies<'a>(alloc: Global) -> Arg<'a>

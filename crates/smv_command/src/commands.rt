@@ -40,4 +40,10 @@ pub enum Command {
         bits: Bits,
         budgets: Budgets,
     },
+    /// Decide all units of the design in which the claim of this name may assume itself, at the same time, for all smaller values of its parameter.
+    Induct {
+        name: Name,
+        var: Name,
+        budgets: Budgets,
+    },
 }

@@ -39,6 +39,8 @@ pub enum Status {
     HoldsHere,
     /// At the given sizes a run of the design breaks an instance of the unit.
     Real,
+    /// Every unit of the strengthened text is true, so that every unit of the text that was read holds.
+    Inducted,
 }
 
 impl Status {
@@ -64,6 +66,7 @@ impl Status {
             Status::Resumed => 0,
             Status::HoldsHere => 10,
             Status::Real => 11,
+            Status::Inducted => 0,
         }
     }
 }

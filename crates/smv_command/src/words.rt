@@ -4,10 +4,10 @@ ghost use Rattle.std.specs.String.{string_bytes};
 ghost use Rattle.clap.specs.Matches.{found_of};
 ghost use Rattle.clap.specs.Walk.{first_of, rows_of, texts};
 ghost use Rattle.clap.specs.Simple.{subcommand_rows_of};
-ghost use Rattle.smv_command.specs.declared.commands.Command.TheVariants.{Prove, Only, Confirm};
+ghost use Rattle.smv_command.specs.declared.commands.Command.TheVariants.{Prove, Only, Confirm, Induct};
 ghost use Rattle.smv_command.specs.Built.{IsGiven};
 ghost use Rattle.smv_command.specs.Ranges.{most_size};
-ghost use Rattle.smv_command.specs.Commands.{bits_in, bits_named, both, budgets_in, command_of, misnames, name_in, named, number, number_in, numbers, sizes_in};
+ghost use Rattle.smv_command.specs.Commands.{bits_in, bits_named, both, budgets_in, command_of, misnames, name_in, named, number, number_in, numbers, sizes_in, var_in};
 
 use crate::Command;
 use crate::command_line::smv;
@@ -69,6 +69,9 @@ fn named(alloc: Global, word: &str, matches: &ArgMatches<'_>) -> Result<Option<C
         Ok(Some(Command::Resume { budgets }))
     } else if word == "confirm" {
         confirm_in(alloc, matches)
+    } else if word == "induct" {
+        let command = induct_in(alloc, matches)?;
+        Ok(Some(command))
     } else {
         unreachable!()
     }
@@ -129,6 +132,19 @@ fn confirm_in(alloc: Global, matches: &ArgMatches<'_>) -> Result<Option<Command>
         }
         None => Ok(None),
     }
+}
+
+// The command that proves by induction on a claim and a parameter of it.
+fn induct_in(alloc: Global, matches: &ArgMatches<'_>) -> Result<Command, AllocError>
+    requires name { is_some (name_in (rows_of (found_of matches.now))) ≡ true }
+    requires var { is_some (var_in (rows_of (found_of matches.now))) ≡ true }
+    requires budgets { is_some (budgets_in (rows_of (found_of matches.now))) ≡ true }
+    ensures { IfOk result (λ command. option_map (λ p. Induct p.0 p.1.0 p.1.1) (both (name_in (rows_of (found_of matches.now))) (both (var_in (rows_of (found_of matches.now))) (budgets_in (rows_of (found_of matches.now))))) ≡ Some command) }
+{
+    let name = text_in(alloc, matches, "NAME")?;
+    let var = text_in(alloc, matches, "VAR")?;
+    let budgets = budgets_in(matches);
+    Ok(Command::Induct { name, var, budgets })
 }
 
 // The bits of a command, or none where they are named by none of their words.

@@ -20,8 +20,8 @@ fn words(alloc: Global, line: &str) -> Result<Vec<String>, AllocError> {
 // The words, the bytes that are read, the exit status and what is written.
 pub type Row = (&'static str, &'static str, u8, &'static str);
 
-// Whether a call has this exit status and writes this.
-fn is_answered(
+/// Whether a call has this exit status and writes this.
+pub fn is_answered(
     alloc: Global,
     line: &str,
     bytes: &[u8],

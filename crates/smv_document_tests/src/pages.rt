@@ -11,6 +11,12 @@ const ROWS_1: &[Row] = &[
         "opa//arch: real at 2\n time 0: issue = 1, src = #0, dst = #0, reg[#0] = #0, reg[#1] = #0, f[#0] = #1, f[#1] = #0, opa = #0, alu = #0, ex.valid = 0, ex.dst = #0, ex.val = #1, wb.valid = 0, wb.dst = #0, wb.val = #0, r[#0] = #0, r[#1] = #0, operand = #0, result = #1\n time 1: issue = 0, src = #0, dst = #0, reg[#0] = #0, reg[#1] = #0, f[#0] = #1, f[#1] = #0, opa = #1, alu = #1, ex.valid = 1, ex.dst = #0, ex.val = #0, wb.valid = 0, wb.dst = #0, wb.val = #0, r[#0] = #1, r[#1] = #0, operand = #1, result = #0\n time 2: issue = 1, src = #0, dst = #0, reg[#0] = #0, reg[#1] = #0, f[#0] = #1, f[#1] = #0, opa = #0, alu = #0, ex.valid = 0, ex.dst = #0, ex.val = #1, wb.valid = 1, wb.dst = #0, wb.val = #1, r[#0] = #1, r[#1] = #0, operand = #1, result = #0\n",
     ),
     (
+        "induct all i",
+        "ordset AGE undefined; module main() { add, hang : boolean; n, behind : AGE; used, good : array AGE of boolean; on : array AGE of AGE; hang := used[behind] & behind < n; forall (i in AGE) { init(used[i]) := 0; init(good[i]) := 1; init(on[i]) := i; } if (add & ~used[n]) { next(used[n]) := 1; if (hang) { next(on[n]) := behind; next(good[n]) := good[behind]; } } layer chain : { forall (i in AGE) good[i] := on[i] < i ? good[on[i]] : 1; } forall (i in AGE) held[i] : assert G (on[i] < i -> used[i] & used[on[i]]); forall (i in AGE) all[i] : assert G good[i]; forall (i in AGE) forall (j in AGE) { subcase hangs[j] of held[i] for on[i] = j; subcase as_its[j] of good[i]//chain for on[i] = j; subcase good_as[j] of all[i] for on[i] = j; } using held prove as_its; using good//chain prove good_as; }",
+        0,
+        "good//chain: true\nheld: true\nall: true\nproved 3 of 3\n",
+    ),
+    (
         "confirm opa//arch 1 1",
         "scalarset WORD undefined; scalarset REG undefined; module main() { issue : boolean; src, dst : REG; reg : array REG of WORD; f : array WORD of WORD; opa, alu : WORD; ex : struct { valid : boolean; dst : REG; val : WORD; }; forall (w in WORD) next(f[w]) := f[w]; opa := reg[src]; init(ex.valid) := 0; next(ex.valid) := issue; next(ex.dst) := dst; next(ex.val) := opa; alu := f[ex.val]; if (ex.valid) next(reg[ex.dst]) := alu; abstract r : array REG of WORD; abstract operand, result : WORD; layer arch : { operand := r[src]; result := f[operand]; forall (k in REG) init(r[k]) := reg[k]; if (issue) next(r[dst]) := result; if (issue) opa := operand; } }",
         10,
@@ -89,6 +95,18 @@ const ROWS_2: &[Row] = &[
         "scalarset TAG undefined; module main() { older : array TAG of array TAG of boolean; next_tag : TAG; fresh : assert G ~older[next_tag][next_tag]; }",
         11,
         "fresh: real at 0\n time 0: older[#0][#0] = 1, next_tag = #0\n",
+    ),
+    (
+        "induct fresh w",
+        "ordset TIME undefined;\nscalarset WORD undefined;\nmodule main() {\n  seen : array TIME of array WORD of boolean;\n  forall (t in TIME) forall (w in WORD) fresh[t][w] : assert G ~seen[t][w];\n}\n",
+        3,
+        "fault 36 at line 1 column 1\n",
+    ),
+    (
+        "induct fresh t",
+        "ordset TIME undefined; scalarset WORD undefined; module main() { seen : array TIME of array WORD of boolean; forall (t in TIME) forall (w in WORD) fresh[t][w] : assert G ~seen[t][w]; }",
+        1,
+        "fresh: false at 0\n case #0, #0\n time 0: seen[#0][#0] = 1\nproved 0 of 1\n",
     ),
 ];
 

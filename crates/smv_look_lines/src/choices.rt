@@ -172,7 +172,7 @@ fn push_keeps(out: &mut Vec<u8>, design: &Design, keeps: &[Keep]) -> Result<(), 
 }
 
 /// Writes the lines of what a proof uses.
-pub(crate) fn push_choice(
+pub fn push_choice(
     out: &mut Vec<u8>,
     design: &Design,
     choice: &Choice,

@@ -92,8 +92,8 @@ fn push_target(out: &mut Vec<u8>, is_target: bool, itself: bool) -> Result<(), A
     }
 }
 
-// An element is the target.
-fn is_target(target: Option<&Element>, x: &Element) -> bool
+/// An element is the target.
+pub fn is_target(target: Option<&Element>, x: &Element) -> bool
     ensures { result ≡ spec.is_target (option_copied target.entry) x.now }
 {
     match target {
@@ -132,8 +132,8 @@ fn push_line(
     Ok(())
 }
 
-// Writes the line of each element.
-fn push_lines(
+/// Writes the line of each of these elements.
+pub fn push_lines(
     out: &mut Vec<u8>,
     look: &Look,
     target: Option<&Element>,
@@ -165,8 +165,8 @@ fn first_classes(classes: &[Class], count: usize) -> &[Class]
     &classes[..count.min(classes.len())]
 }
 
-// The element of which a map is proved; of a claim there is none.
-fn target_of(
+/// The element of which a map is proved, in a case with these classes; of a claim there is none.
+pub fn target_of(
     alloc: Global,
     design: &Design,
     classes: &[Class],
@@ -186,8 +186,8 @@ fn target_of(
     Ok(Some(Element { family, indexes }))
 }
 
-// How many bits these elements have together. Also where the number does not fit its type, which no case within the limits has, there is an error.
-fn total(look: &Look, elements: &[Element]) -> Result<usize, AllocError>
+/// How many bits these elements have together. Also where the number does not fit its type, which no case within the limits has, there is an error.
+pub fn total(look: &Look, elements: &[Element]) -> Result<usize, AllocError>
     ensures { IfOk result (λ bits. bits ≡ bits_of_elements look.now.design.now.families look.now.lists.now look.now.types.now elements.now) }
 {
     let families = look.design.families.as_slice();

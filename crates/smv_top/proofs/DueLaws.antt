@@ -12,26 +12,27 @@ use Rattle.smv_bits.specs.declared.Bits.{Bits}
 use Rattle.smv_problem.specs.declared.report.Budgets.{Budgets}
 use Rattle.smv_problem.specs.declared.report.Report.{Report}
 use Rattle.smv_command.specs.declared.commands.Command.{Command}
-use Rattle.smv_command.specs.declared.commands.Command.TheVariants.{Prove, Only, Print, Generated, Proof, Check, Resume, Confirm}
+use Rattle.smv_command.specs.declared.commands.Command.TheVariants.{Prove, Only, Print, Generated, Proof, Check, Resume, Confirm, Induct}
 use Rattle.smv_command.specs.declared.exit.Status.{Status}
 use Rattle.smv_command.specs.declared.exit.Status.TheVariants as status
 use Rattle.smv_gen.specs.Generated.{generated_text}
 use Rattle.smv_answers.specs.Reports.{IsUnitReport, HasNoUnit}
 use Rattle.law_document_answers.specs.Dues.{refused_text, too_long_to_check, too_long_to_resume}
 use Rattle.law_judgements.specs.Judgements as judgement
+use Rattle.law_induct_answers.specs.Dues as induct
 use Rattle.smv_top.specs.Refusals.{IsRefused}
-use Rattle.smv_answers.specs.Dues.{IsDue, IsDueTo, IsFault, IsReportFor, text_for, usage_line, decided, printed, refused, too_long, malformed, unnamed, decides, is_of_documents, length_fault, limit, limit_for, of_documents, lines_for, proved_by, status_of}
+use Rattle.smv_answers.specs.Dues.{IsDue, IsDueTo, IsFault, IsReportFor, text_for, usage_line, decided, printed, refused, too_long, malformed, unnamed, decides, is_of_own, length_fault, limit, limit_for, of_documents, of_induction, lines_for, proved_by, status_of}
 
 pub due_report : (command : Command) (text : List ℕ) (report : Report) (due : Status) (answer : List ℕ) → IsReportFor command text report → due ≡ status_of (proved_by command) report → answer ≡ lines_for command report → IsDue command text due answer
 due_report command text report due answer is e f = rw e (rw f (decided report is))
 
-pub due_fault : (command : Command) (text : List ℕ) (number at : ℕ) (due : Status) (answer : List ℕ) → is_of_documents command ≡ false → IsFault command text number at → due ≡ status.Refused → answer ≡ fault_text text number at → IsDue command text due answer
+pub due_fault : (command : Command) (text : List ℕ) (number at : ℕ) (due : Status) (answer : List ℕ) → is_of_own command ≡ false → IsFault command text number at → due ≡ status.Refused → answer ≡ fault_text text number at → IsDue command text due answer
 due_fault command text number at due answer own is e f = rw e (rw f (refused number at own is))
 
 pub due_tree : (text : List ℕ) (tree : Text) (due : Status) (answer : List ℕ) → length text ≤ limit → SpellsText text tree → due ≡ status.Printed → answer ≡ canonical tree → IsDue Print text due answer
 due_tree text tree due answer within is e f = rw e (rw f (printed tree (record { within = within; spelled = is })))
 
-pub due_length : (command : Command) (text : List ℕ) (due : Status) (answer : List ℕ) → is_of_documents command ≡ false → limit < length text → due ≡ status.Refused → answer ≡ fault_text text 31 0 → IsDue command text due answer
+pub due_length : (command : Command) (text : List ℕ) (due : Status) (answer : List ℕ) → is_of_own command ≡ false → limit < length text → due ≡ status.Refused → answer ≡ fault_text text 31 0 → IsDue command text due answer
 due_length command text due answer own long e f = due_fault command text 31 0 due answer own (too_long long) e f
 
 pub due_form : (text : List ℕ) (number at : ℕ) (due : Status) (answer : List ℕ) → length text ≤ limit → HasFault text number at → due ≡ status.Refused → answer ≡ fault_text text number at → IsDue Print text due answer
@@ -68,6 +69,7 @@ due_over (Proof budgets) text long = of_documents (refused_text budgets 31 0 (ju
 due_over Check text long = of_documents (too_long_to_check long)
 due_over (Resume budgets) text long = of_documents (too_long_to_resume budgets long)
 due_over (Confirm name sizes bits budgets) text long = refused 31 0 refl (too_long long)
+due_over (Induct name var budgets) text long = of_induction name var budgets (induct.refused_text status.Inducted name var budgets 31 0 (judgement.too_long long))
 
 at_first : (command : Command) (text : List ℕ) → fault_text [] (length_fault command) 0 ≡ fault_text text (length_fault command) 0
 at_first command text = refl
@@ -91,7 +93,7 @@ due_no_unit command text name bits budgets due answer asks none e f = rw asks (d
 pub decides_one : (command : Command) (name : List ℕ) (bits : Bits) (budgets : Budgets) → command ≡ Only name bits budgets → decides command ≡ true
 decides_one command name bits budgets asks = rw asks refl
 
-pub own_one : (command : Command) (name : List ℕ) (bits : Bits) (budgets : Budgets) → command ≡ Only name bits budgets → is_of_documents command ≡ false
+pub own_one : (command : Command) (name : List ℕ) (bits : Bits) (budgets : Budgets) → command ≡ Only name bits budgets → is_of_own command ≡ false
 own_one command name bits budgets asks = rw asks refl
 
 -- the same, of equal bytes

@@ -1,5 +1,5 @@
 -- How a call ends, and what follows from it.
-use Rattle.std.proofs.Common.{◌≡◌, ◌≢◌, ℕ, ◌+◌, ◌<◌, List, [], length, Bool, true, false, Option, Some, None, IfSome, ◌⊎◌, inl, inr, refl, sym, ap, ◌∙◌, subst, arith, true≢false}
+use Rattle.std.proofs.Common.{◌≡◌, ◌≢◌, ℕ, ◌+◌, ◌<◌, List, [], length, Bool, true, false, not, Option, Some, None, IfSome, ◌⊎◌, inl, inr, refl, sym, ap, ◌∙◌, subst, arith, true≢false}
 use Rattle.std.specs.Prelude.{if◌then◌else◌}
 use Rattle.std.proofs.Math.ListN.{replicate}
 use Rattle.std.proofs.lemmas.List.{length-replicate}
@@ -11,16 +11,17 @@ use Rattle.smv_problem.specs.declared.report.Verdict.{Verdict}
 use Rattle.smv_problem.specs.declared.report.Verdict.TheVariants as verdict
 use Rattle.smv_command.specs.Ranges.{IsInRange}
 use Rattle.smv_command.specs.declared.commands.Command.{Command}
-use Rattle.smv_command.specs.declared.commands.Command.TheVariants.{Prove, Only, Print, Generated, Proof, Check, Resume, Confirm}
+use Rattle.smv_command.specs.declared.commands.Command.TheVariants.{Prove, Only, Print, Generated, Proof, Check, Resume, Confirm, Induct}
 use Rattle.smv_command.specs.declared.exit.Status.{Status}
-use Rattle.smv_command.specs.declared.exit.Status.TheVariants.{AllProved, SomeFalse, SomeUnknown, Refused, Usage, ReadFault, WriteFault, OutOfMemory, PartProved, Printed as printed_out, Generated as all_generated, Documented, Checked, Rejected, Resumed as all_resumed, HoldsHere, Real}
+use Rattle.smv_command.specs.declared.exit.Status.TheVariants.{AllProved, SomeFalse, SomeUnknown, Refused, Usage, ReadFault, WriteFault, OutOfMemory, PartProved, Printed as printed_out, Generated as all_generated, Documented, Checked, Rejected, Resumed as all_resumed, HoldsHere, Real, Inducted}
 use Rattle.smv_answers.specs.Reports.{IsSoundDesign}
 use Rattle.law_judgements.specs.Judgements.{Judgement}
 use Rattle.law_judgements.specs.Judgements.Judgement.{yes, form, design, set}
 use Rattle.law_document_answers.specs.Dues.{IsDocumentDue, documented, open_report, refused_text, too_long_to_check, judged, refused_design, too_long_to_resume, not_old, refused_new, resumed, open_resumed, status_by}
-use Rattle.smv_answers.specs.Dues.{IsDue, IsDueTo, confirmed, decided, of_documents, printed, refused, is_false, is_unknown, proved_by, status_of, Gave, Ends}
+use Rattle.law_induct_answers.proofs.Statuses.{of_statuses}
+use Rattle.smv_answers.specs.Dues.{IsDue, IsDueTo, confirmed, decided, of_documents, of_induction, printed, refused, is_false, is_unknown, proved_by, status_of, Gave, Ends}
 use Rattle.law_answers.specs.Confirmations.{confirmed_status}
-use Rattle.smv_answers.specs.Laws.{CheckedDocumentIsSound, DocumentedTextIsSound, HoldsAsAsked, HoldsHereIsSo, HoldsSound, OneStatus, ProvedIsSound, RealIsSo, RenewsSound, ResumedDocumentIsSound}
+use Rattle.smv_answers.specs.Laws.{CheckedDocumentIsSound, DocumentedTextIsSound, HoldsAsAsked, HoldsHereIsSo, HoldsSound, InductedTextIsSound, OneStatus, ProvedIsSound, RealIsSo, RenewsSound, ResumedDocumentIsSound}
 use Rattle.smv_top.specs.Clauses.{Completes, ShowsReal}
 
 -- ---- what the source gave
@@ -60,6 +61,7 @@ is_own (Proof budgets) = refl
 is_own Check = refl
 is_own (Resume budgets) = refl
 is_own (Confirm name sizes bits budgets) = refl
+is_own (Induct name var budgets) = refl
 
 -- the two statuses under which nothing is written
 abbrev is_read : Status → Bool
@@ -103,12 +105,17 @@ of_document _ text _ _ (refused_new budgets old new proof number at within is sp
 of_document _ text _ _ (resumed budgets old new proof made within is spells is_new) = refl
 of_document _ text _ _ (open_resumed budgets old new proof report within is spells told some_not) = of_report all_resumed report refl
 
+not_false : (b : Bool) → not b ≡ false → b ≡ true
+not_false true e = refl
+not_false false e = absurd (true≢false e)
+
 of_command : (command : Command) (text : List ℕ) (due : Status) (answer : List ℕ) → IsDue command text due answer → is_answered due ≡ true
 of_command command text _ _ (decided report is) = of_report (proved_by command) report (is_own command)
 of_command _ text _ _ (printed tree is) = refl
 of_command command text _ _ (refused number at own fault) = refl
 of_command command text due answer (of_documents is) = of_document command text due answer is
 of_command _ text _ _ (confirmed name sizes bits budgets tree unit told valid called is) = of_verdict told
+of_command _ text due answer (of_induction name var budgets is) = not_false (is_answered due) (of_statuses (λ s. not (is_answered s)) refl refl refl Inducted refl name var budgets text due answer is)
 
 -- a status under which no answer is written whole is never owed
 pub owed_not : (command : Command) (text : List ℕ) (due : Status) (answer : List ℕ) (other : Status) → IsDue command text due answer → is_answered other ≡ false → due ≢ other
@@ -148,6 +155,7 @@ finished status r command text answer old new due taken front (inl e) = rw e (wh
     whole all_resumed is due all = (answer, due, all)
     whole HoldsHere is due all = (answer, due, all)
     whole Real is due all = (answer, due, all)
+    whole Inducted is due all = (answer, due, all)
     whole ReadFault is due all = absurd (true≢false (sym is))
     whole WriteFault is due all = absurd (true≢false (sym is))
     whole OutOfMemory is due all = absurd (true≢false (sym is))
@@ -172,6 +180,11 @@ checked_holds_sound law r command text old new is ends =
 pub resumed_renews_sound : ResumedDocumentIsSound → (r : Status) (command : Option Command) (text : List ℕ) (old new : Option (List ℕ)) → r ≡ all_resumed → Ends r command text old new → RenewsSound text
 resumed_renews_sound law r command text old new is ends =
     let e : Ends all_resumed command text old new = subst (λ s. Ends s command text old new) is ends in
+    law command text e.0 e.1
+
+pub inducted_is_sound : InductedTextIsSound → (r : Status) (command : Option Command) (text : List ℕ) (old new : Option (List ℕ)) → r ≡ Inducted → Ends r command text old new → IsSoundDesign text
+inducted_is_sound law r command text old new is ends =
+    let e : Ends Inducted command text old new = subst (λ s. Ends s command text old new) is ends in
     law command text e.0 e.1
 
 pub holds_as_asked : HoldsHereIsSo → (r : Status) (command : Option Command) (text : List ℕ) (old new : Option (List ℕ)) → IfSome command IsInRange → r ≡ HoldsHere → Ends r command text old new → HoldsAsAsked command text
@@ -205,6 +218,7 @@ module _ (one : OneStatus) (command : Option Command) (text : List ℕ) (old new
   completed all_resumed no_read no_write e due answer is p q = inl (one command text all_resumed due e.0 answer e.1 is p q)
   completed HoldsHere no_read no_write e due answer is p q = inl (one command text HoldsHere due e.0 answer e.1 is p q)
   completed Real no_read no_write e due answer is p q = inl (one command text Real due e.0 answer e.1 is p q)
+  completed Inducted no_read no_write e due answer is p q = inl (one command text Inducted due e.0 answer e.1 is p q)
   completed ReadFault no_read no_write e due answer is p q = absurd (no_read refl)
   completed WriteFault no_read no_write e due answer is p q = absurd (no_write refl)
   completed OutOfMemory no_read no_write e due answer is p q = inr refl

@@ -4,10 +4,11 @@ ghost use Rattle.smv_problem.specs.declared.report.Report.{Report};
 ghost use Rattle.smv_command.specs.Ranges.{IsInRange, AreInRange};
 ghost use Rattle.smv_command.specs.declared.commands.Command.TheVariants as variant;
 ghost use Rattle.smv_answers.specs.Reports.{IsRightReport};
-ghost use Rattle.smv_answers.specs.Dues.{IsDue, IsReportFor, decides, is_of_documents, default_nodes, default_steps};
+ghost use Rattle.smv_answers.specs.Dues.{IsDue, IsReportFor, decides, is_of_own, default_nodes, default_steps};
 
 use crate::confirmations::confirmed;
 use crate::documents::{checked, documented, resumed};
+use crate::inductions::inducted;
 use crate::limits::{LIMIT, TOO_LONG};
 use smv_answers::{Answer, printed, refused, reported};
 use smv_bits::Bits;
@@ -41,6 +42,9 @@ pub fn answer_to(alloc: Global, command: &Command, text: &[u8]) -> Result<Answer
             bits,
             budgets,
         } => confirmed(alloc, text, name, sizes.as_slice(), *bits, *budgets),
+        Command::Induct { name, var, budgets } => inducted(
+            alloc, command, text, name, var, *budgets,
+        ),
     }
 }
 
@@ -63,7 +67,7 @@ fn decided(
     budgets: Budgets,
 ) -> Result<Answer, AllocError>
     requires decides { decides command.now ≡ true }
-    requires own { is_of_documents command.now ≡ false }
+    requires own { is_of_own command.now ≡ false }
     requires asks { (report : Report) → IsRightReport text.now bits budgets.nodes budgets.steps report → IsReportFor command.now text.now report }
     requires in_range { AreInRange budgets }
     ensures { IfOk result (λ answer. IsDue command.now text.now answer.status answer.bytes.items) }

@@ -20,12 +20,15 @@ ghost use Rattle.smv_top.specs.Clauses.{Completes, ShowsReal};
 mod answers;
 mod confirmations;
 mod documents;
+mod inductions;
 mod limits;
 mod refusals;
 
 use answers::answer_to;
 use limits::{CHECK_LIMIT, LIMIT, RESUME_LIMIT};
-use smv_answers::laws::{confirmed_is_so, documents_are_sound, one_status, proved_is_sound};
+use smv_answers::laws::{
+    confirmed_is_so, documents_are_sound, induction_is_sound, one_status, proved_is_sound,
+};
 use smv_answers::usage;
 use smv_command::words_laws::numbers_are_in_range;
 use smv_command::{Command, Status, command_of};
@@ -56,6 +59,9 @@ pub fn run<S: Source, K: Sink>(
     ensures checked { result ≡ Status.Checked → IfSome (S.left source.old) HoldsSound }
     ensures resumed { result ≡ Status.Resumed → IfSome (S.left source.old) RenewsSound }
 
+    // And of the text where a claim that may assume itself for smaller values of a parameter proves it.
+    ensures inducted { result ≡ Status.Inducted → IfSome (S.left source.old) IsSoundDesign }
+
     // At the sizes that the words give: no run breaks an instance of the unit, or what was written shows one that does, and none is shorter.
     ensures holds_here { result ≡ Status.HoldsHere → IfSome (S.left source.old) (HoldsAsAsked (command_of (map string_bytes words.now))) }
     ensures real { result ≡ Status.Real → IfSome (S.left source.old) (ShowsReal (command_of (map string_bytes words.now)) (K.taken sink.old) (K.taken sink.new)) }
@@ -78,6 +84,7 @@ pub fn run<S: Source, K: Sink>(
     one_status();
     proved_is_sound();
     documents_are_sound();
+    induction_is_sound();
     confirmed_is_so();
     numbers_are_in_range();
     answered(alloc, words, source, sink)
@@ -141,6 +148,11 @@ fn asked<S: Source, K: Sink>(
             bits: _,
             budgets: _,
         } => of_source(alloc, command, source, sink),
+        Command::Induct {
+            name: _,
+            var: _,
+            budgets: _,
+        } => of_source(alloc, command, source, sink),
     }
 }
 
@@ -195,6 +207,11 @@ fn limit_for(command: &Command) -> usize
             bits: _,
             budgets: _,
         } => LIMIT,
+        Command::Induct {
+            name: _,
+            var: _,
+            budgets: _,
+        } => LIMIT,
     }
 }
 
@@ -221,6 +238,11 @@ fn too_long(command: &Command) -> &'static [u8]
             name: _,
             sizes: _,
             bits: _,
+            budgets: _,
+        } => TEXT_TOO_LONG,
+        Command::Induct {
+            name: _,
+            var: _,
             budgets: _,
         } => TEXT_TOO_LONG,
     }

@@ -156,6 +156,12 @@ const ROWS_4: &[Row] = &[
     ),
     (
         "prove",
+        "ordset AGE undefined; module main() { add, hang : boolean; n, behind : AGE; used, good : array AGE of boolean; on : array AGE of AGE; hang := used[behind] & behind < n; forall (i in AGE) { init(used[i]) := 0; init(good[i]) := 1; init(on[i]) := i; } if (add & ~used[n]) { next(used[n]) := 1; if (hang) { next(on[n]) := behind; next(good[n]) := good[behind]; } } layer chain : { forall (i in AGE) good[i] := on[i] < i ? good[on[i]] : 1; } forall (i in AGE) held[i] : assert G (on[i] < i -> used[i] & used[on[i]]); forall (i in AGE) all[i] : assert G good[i]; forall (i in AGE) forall (j in AGE) { subcase hangs[j] of held[i] for on[i] = j; subcase as_its[j] of good[i]//chain for on[i] = j; subcase good_as[j] of all[i] for on[i] = j; } using held prove as_its; using good//chain prove good_as; }",
+        1,
+        "good//chain: true\nheld: true\nall: false at 2\n case #1, #0\n time 0: add = 1, hang = 1, n = #0, behind = *0, used[#0] = 0, used[#1] = 0, good[#0] = 1, good[#1] = 1, on[#0] = #0, on[#1] = #1\n time 1: add = 1, hang = 1, n = #1, behind = #0, used[#0] = 1, used[#1] = 0, good[#0] = 0, good[#1] = 1, on[#0] = *0, on[#1] = #1\n time 2: add = 0, hang = 0, n = #0, behind = #0, used[#0] = 1, used[#1] = 1, good[#0] = 0, good[#1] = 0, on[#0] = *0, on[#1] = #0\nproved 2 of 3\n",
+    ),
+    (
+        "prove",
         "module main() { ask, grant : boolean; turn : 0..2; init(turn) := 0; next(turn) := (turn + 1) mod 3; grant := ask & turn = 2; abstract age : 0..3; layer watch : { init(age) := 0; next(age) := (ask | age > 0) & ~grant ? (age < 3 ? age + 1 : 3) : 0; } served : assert G (age < 3); }",
         1,
         "served: false at 3\n time 0: ask = 1, grant = 0, turn = 0, age = 0\n time 1: ask = 0, grant = 0, turn = 1, age = 1\n time 2: ask = 0, grant = 0, turn = 2, age = 2\n time 3: ask = 0, grant = 0, turn = 0, age = 3\nproved 0 of 1\n",

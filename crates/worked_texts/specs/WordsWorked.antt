@@ -3,7 +3,7 @@ use Rattle.std.specs.Prelude.{◌≡◌, ℕ, List, [], ◌∷◌, map, codes, S
 use Rattle.clap.specs.Walk.{Text}
 use Rattle.smv_bits.specs.declared.Bits.TheVariants.{Near, Declared}
 use Rattle.smv_command.specs.declared.commands.Command.{Command}
-use Rattle.smv_command.specs.declared.commands.Command.TheVariants.{Prove, Only, Print, Generated, Confirm}
+use Rattle.smv_command.specs.declared.commands.Command.TheVariants.{Prove, Only, Print, Generated, Confirm, Induct}
 use Rattle.smv_command.specs.Commands.{command_of}
 
 abbrev pub in_first : ℕ → List Text → List Text
@@ -38,6 +38,8 @@ no_commands =
     ∷ codes "prove "
     ∷ codes "print p"
     ∷ codes "only p q"
+    ∷ codes "induct p"
+    ∷ codes "induct p i j"
     ∷ codes "generated 5 6"
     ∷ []
 
@@ -102,6 +104,7 @@ other_bits =
     ∷ codes "confirm p 1 --bits far"
     ∷ codes "confirm p --bits 1"
     ∷ codes "proof --bits declared"
+    ∷ codes "induct p i --bits near"
     ∷ codes "--bits declared prove"
     ∷ []
 
@@ -173,6 +176,8 @@ names =
     ∷ (codes "only --nodes 5 p", Only (codes "p") Near (record { nodes = 5; steps = 1000 }))
     ∷ (codes "only --nodes=5 -- p", Only (codes "p") Near (record { nodes = 5; steps = 1000 }))
     ∷ (codes "only --steps 7 p --nodes 5", Only (codes "p") Near (record { nodes = 5; steps = 7 }))
+    ∷ (codes "induct p i", Induct (codes "p") (codes "i") (record { nodes = 1000000; steps = 1000 }))
+    ∷ (codes "induct --steps 7 p -- -i", Induct (codes "p") (codes "-i") (record { nodes = 1000000; steps = 7 }))
     ∷ []
 
 -- a command that takes nothing

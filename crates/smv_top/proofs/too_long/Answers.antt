@@ -33,3 +33,7 @@ returns-in-Proof c = rw c.in-Proof.is refl
 pub returns-in-Confirm : goal.returns-in-Confirm
 unfolding digits
 returns-in-Confirm c = rw c.in-Confirm.is refl
+
+pub returns-in-Induct : goal.returns-in-Induct
+unfolding digits
+returns-in-Induct c = rw c.in-Induct.is refl

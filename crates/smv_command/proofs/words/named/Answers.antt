@@ -7,7 +7,7 @@ use Rattle.clap.specs.Walk.{rows_of}
 use Rattle.smv_command.specs.Ranges.{most_copies}
 use Rattle.smv_command.specs.declared.commands.Command.TheVariants.{Generated, Proof, Resume}
 use Rattle.smv_command.proofs.Values.{number_ranged}
-use Rattle.smv_command.proofs.ByName.{at_check, at_confirm, at_generated, at_only, at_print, at_proof, at_prove, at_resume, given_to_confirm, given_to_generated, given_to_only, given_to_proof, given_to_prove, given_to_resume, has_none, names_bits, needs_none, no_name}
+use Rattle.smv_command.proofs.ByName.{at_check, at_confirm, at_generated, at_induct, at_only, at_print, at_proof, at_prove, at_resume, given_to_confirm, given_to_generated, given_to_induct, given_to_only, given_to_proof, given_to_prove, given_to_resume, has_none, names_bits, needs_none, no_name}
 use Rattle.smv_command.proofs.words.named.Goals as goal
 
 pub prove_in-requires : goal.prove_in-requires
@@ -72,9 +72,21 @@ confirm_in-requires-clause-budgets c = λ there. (given_to_confirm c.args.word.n
 pub returns-then-eq-8 : goal.returns-then-eq-8
 returns-then-eq-8 c = IfOk-weaker c.confirm_in.result _ _ (λ found is. at_confirm c.args.word.now (rows_of (found_of c.args.matches.now)) (sym c.eq-else-eq-7.ensures ∙ c.if-eq-8.true) ∙ is) c.confirm_in.ensures
 
+pub induct_in-requires-clause-name : goal.induct_in-requires-clause-name
+induct_in-requires-clause-name c = (given_to_induct c.args.word.now (rows_of (found_of c.args.matches.now)) (sym c.eq-else-eq-8.ensures ∙ c.if-eq-9.true) (c.requires (needs_none c.args.word.now (codes "induct") (rows_of (found_of c.args.matches.now)) (sym c.eq-else-eq-8.ensures ∙ c.if-eq-9.true) refl))).0
+
+pub induct_in-requires-clause-var : goal.induct_in-requires-clause-var
+induct_in-requires-clause-var c = (given_to_induct c.args.word.now (rows_of (found_of c.args.matches.now)) (sym c.eq-else-eq-8.ensures ∙ c.if-eq-9.true) (c.requires (needs_none c.args.word.now (codes "induct") (rows_of (found_of c.args.matches.now)) (sym c.eq-else-eq-8.ensures ∙ c.if-eq-9.true) refl))).1
+
+pub induct_in-requires-clause-budgets : goal.induct_in-requires-clause-budgets
+induct_in-requires-clause-budgets c = (given_to_induct c.args.word.now (rows_of (found_of c.args.matches.now)) (sym c.eq-else-eq-8.ensures ∙ c.if-eq-9.true) (c.requires (needs_none c.args.word.now (codes "induct") (rows_of (found_of c.args.matches.now)) (sym c.eq-else-eq-8.ensures ∙ c.if-eq-9.true) refl))).2
+
+pub returns-in_ok-command : goal.returns-in_ok-command
+returns-in_ok-command c = at_induct c.args.word.now (rows_of (found_of c.args.matches.now)) (sym c.eq-else-eq-8.ensures ∙ c.if-eq-9.true) ∙ c.in_ok-command.ensures
+
 pub unreachable-requires : goal.unreachable-requires
 unreachable-requires c =
     let none =
     no_name c.args.word.now (rows_of (found_of c.args.matches.now)) (sym c.eq.ensures ∙ c.if-eq.false) (sym c.eq-else-eq.ensures ∙ c.if-eq-2.false) (sym c.eq-else-eq-2.ensures ∙ c.if-eq-3.false)
-    (sym c.eq-else-eq-3.ensures ∙ c.if-eq-4.false) (sym c.eq-else-eq-4.ensures ∙ c.if-eq-5.false) (sym c.eq-else-eq-5.ensures ∙ c.if-eq-6.false) (sym c.eq-else-eq-6.ensures ∙ c.if-eq-7.false) (sym c.eq-else-eq-7.ensures ∙ c.if-eq-8.false) in
+    (sym c.eq-else-eq-3.ensures ∙ c.if-eq-4.false) (sym c.eq-else-eq-4.ensures ∙ c.if-eq-5.false) (sym c.eq-else-eq-5.ensures ∙ c.if-eq-6.false) (sym c.eq-else-eq-6.ensures ∙ c.if-eq-7.false) (sym c.eq-else-eq-7.ensures ∙ c.if-eq-8.false) (sym c.eq-else-eq-8.ensures ∙ c.if-eq-9.false) in
     true≢false (sym (ap is_some (sym none) ∙ (c.requires (has_none c.args.word.now (rows_of (found_of c.args.matches.now)) (sym c.eq.ensures ∙ c.if-eq.false) (sym c.eq-else-eq.ensures ∙ c.if-eq-2.false) (sym c.eq-else-eq-7.ensures ∙ c.if-eq-8.false)))))

@@ -6,12 +6,12 @@ use Rattle.clap.specs.Walk.{Row, Text, all_of}
 use Rattle.clap.specs.Simple.{subcommand_of}
 use Rattle.clap.specs.Faults.{fault_of}
 use Rattle.smv_command.specs.CommandLine.{smv}
-use Rattle.smv_command.specs.Commands.{bits_in, both, budgets_in, command_of, where_faultless, name_in, named, number, number_in, numbers, sizes_in}
+use Rattle.smv_command.specs.Commands.{bits_in, both, budgets_in, command_of, where_faultless, name_in, named, number, number_in, numbers, sizes_in, var_in}
 use Rattle.smv_command.specs.Ranges.{AreInRange, AreSizes, IsInRange, most_nodes, most_steps, most_copies, most_size}
 use Rattle.smv_bits.specs.declared.Bits.{Bits}
 use Rattle.smv_problem.specs.declared.report.Budgets.{Budgets}
 use Rattle.smv_command.specs.declared.commands.Command.{Command}
-use Rattle.smv_command.specs.declared.commands.Command.TheVariants.{Prove, Only, Generated, Proof, Resume, Confirm}
+use Rattle.smv_command.specs.declared.commands.Command.TheVariants.{Prove, Only, Generated, Proof, Resume, Confirm, Induct}
 use Rattle.smv_command.proofs.Values.{number_ranged, spelled_ranged}
 use Rattle.smv_command.proofs.words_laws.numbers_are_in_range.Goals as goal
 
@@ -82,6 +82,15 @@ confirm_ranged rows = go (name_in rows) (sizes_in rows) (bits_in rows) (budgets_
     go (Some n) (Some s) (Some w) None p q = tt
     go (Some n) (Some s) (Some w) (Some b) p q = (p, q)
 
+induct_ranged : (rows : List Row) → InRange (option_map (λ p. Induct p.0 p.1.0 p.1.1) (both (name_in rows) (both (var_in rows) (budgets_in rows))))
+induct_ranged rows = go (name_in rows) (var_in rows) (budgets_in rows) (budgets_ranged rows)
+  where
+    go : (n v : Option Text) (b : Option Budgets) → BothInRange b → InRange (option_map (λ p. Induct p.0 p.1.0 p.1.1) (both n (both v b)))
+    go None v b q = tt
+    go (Some n) None b q = tt
+    go (Some n) (Some v) None q = tt
+    go (Some n) (Some v) (Some b) q = q
+
 only_ranged : (rows : List Row) → InRange (option_map (λ p. Only p.0 p.1.0 p.1.1) (both (name_in rows) (both (bits_in rows) (budgets_in rows))))
 only_ranged rows = go (name_in rows) (bits_in rows) (budgets_in rows) (budgets_ranged rows)
   where
@@ -106,7 +115,8 @@ named_ranged word rows =
     (chosen (bytes_eq word (codes "proof")) _ _ (plain Proof (budgets_in rows) (λ b p. p) r)
     (chosen (bytes_eq word (codes "check")) _ _ tt
     (chosen (bytes_eq word (codes "resume")) _ _ (plain Resume (budgets_in rows) (λ b p. p) r)
-    (chosen (bytes_eq word (codes "confirm")) _ _ (confirm_ranged rows) tt)))))))
+    (chosen (bytes_eq word (codes "confirm")) _ _ (confirm_ranged rows)
+    (chosen (bytes_eq word (codes "induct")) _ _ (induct_ranged rows) tt))))))))
 
 words_ranged : (words : List Text) → InRange (command_of words)
 unfolding command_of

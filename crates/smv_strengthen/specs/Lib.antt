@@ -1,0 +1,5 @@
+pub mod Answers
+pub mod Claims
+pub mod Place
+pub mod Fronts
+pub mod Names
