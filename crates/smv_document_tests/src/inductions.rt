@@ -70,7 +70,7 @@ const INDUCTIONS: &[Row] = &[
     ("induct p j", CHAIN, 3, "fault 36 at line 1 column 1\n"),
     (
         "induct p w",
-        "ordset I undefined; scalarset W undefined; module main() { x : array W of boolean; forall (w in W) p[w] : assert G x[w]; }",
+        "ordset I undefined; scalarset P undefined; module main() { x : array P of boolean; forall (w in P) p[w] : assert G x[w]; }",
         3,
         "fault 36 at line 1 column 1\n",
     ),
