@@ -13,7 +13,7 @@ It ends with status 1 where something differs. The pages also run make, sed, seq
     ```smv NAME       a whole text, the file NAME; so is ```make NAME and ```sh NAME
     ```diff NAME OLD  the file NAME: the file OLD with some lines changed. A line begins with a blank (it is there), `-` (it goes) or `+` (it comes);
                       a line `@@` parts one change from the next. The lines with blanks and `-` of a change stand together in OLD, at one place.
-    ```console        lines `$ COMMAND`, each with what it writes behind it. The folder has the files of the page, those that earlier commands wrote, and `examples`.
+    ```console        lines `$ COMMAND`, each with what it writes behind it. The folder has the files of the page, those that earlier commands wrote, `examples` and `tools`.
     ```marked         texts of one line, each with a line below it that has `^ fault N` under the place, and perhaps more words: what `prove` answers.
                       They stand in no table of tests.
 
@@ -61,12 +61,24 @@ BLANKS = re.compile(r"printf '%(\d+)s' '' \| deodarwrench (\w+)")
 WAVE = re.compile(r"(deodarwrench prove < \S+) \| smv_wave( table)?")
 # One that a test can give the program that looks at a text.
 LOOK = re.compile(r"smv_look ([^<|]+?) < (\S+)")
+# One that stands on that program.
+NEEDS_LOOK = re.compile(r"\btools/sets\b|\bsets\.proof\b")
 # A command of which only the first lines are shown.
 HEAD = re.compile(r"\| head -n \d+$")
 # Words of the commands on documents, on units at given sizes and by induction, which have tests of their own.
 APART = re.compile(r"(?:proof|check|resume|confirm|induct)\b")
 # What that program answers where a unit has no case of the number that is asked for.
 NO_CASE = re.compile(r"\S+: cases \d+\n")
+
+
+def all_true(answer):
+    """Returns whether the last line of a report says that every unit is true."""
+    return bool(re.search(r"^proved (\d+) of \1\n\Z", answer, re.M))
+
+
+def weak_units(answer):
+    """Returns the lines of the units that are not true, and the last line."""
+    return [line for line in answer.splitlines() if not line.startswith(" ") and not line.endswith(": true")]
 
 
 def status(command, answer):
@@ -77,6 +89,8 @@ def status(command, answer):
         return 3
     if answer.startswith("usage: "):
         return 4
+    if command.startswith("smv_look explain"):
+        return int(not all_true(answer))
     if re.search(r"^\S+: false at \d+$", answer, re.M):
         return 1
     if re.search(r"^\S+: unknown (steps|nodes \d+)$", answer, re.M):
@@ -185,7 +199,9 @@ def run_looks(look):
         for line in lines.splitlines():
             if not line.startswith(" ") and ran(["cone", line.split(":")[0]], text)[1]:
                 wrong.append(f"cone of {example.name}: {line}")
-        wrong += [f"explain of {example.name}"] if ran(["explain"], text) != ("", 0) else []
+        # What is shown of verdicts speaks of the units that are not true, and of those that lean on them.
+        report, (told, code) = example.with_suffix(".answer").read_text(), ran(["explain"], text)
+        wrong += [f"explain of {example.name}"] if weak_units(told) != weak_units(report) or code != int(not all_true(report)) else []
         warned, code = ran(["lint"], text)
         wrong += [f"lint of {example.name}"] if code != int(warned != "") else []
     print("\n".join([*wrong, f"smv_look: {len(mistakes())} mistakes, and each example"]))
@@ -200,13 +216,14 @@ def run_all(program, *more):
         with tempfile.TemporaryDirectory() as folder:
             os.symlink(Path(program).resolve(), f"{folder}/deodarwrench")
             os.symlink(TOP / "examples", f"{folder}/examples")
+            os.symlink(TOP / "tools", f"{folder}/tools")
             for name, place in beside.items():
                 os.symlink(Path(place).resolve(), f"{folder}/{name}")
             for name, text in files.items():
                 Path(folder, name).write_text(text)
             there = {**os.environ, "PATH": f"{folder}:{os.environ['PATH']}"}
             for command, answer in commands:
-                if any(name in command and name not in beside for name in BESIDE):
+                if any(name in command and name not in beside for name in BESIDE) or NEEDS_LOOK.search(command) and "smv_look" not in beside:
                     print(f"{page}: not run: {command}")
                     continue
                 ran = subprocess.run(command, shell=True, cwd=folder, env=there, capture_output=True, text=True)

@@ -295,6 +295,12 @@ def token_ring(n):
 """
 
 
+def token_pairs(n):
+    """The same with a claim for each two stations: a case for each, so that many processes can take them."""
+    text = token_ring(n)
+    return text[: text.index("  p : ")] + f"  forall (i in 0..{n - 1}) forall (j in 0..{n - 1}) alone[i][j] : assert G (i = j | ~(works[i] & works[j]));\n}}\n"
+
+
 def round_robin(n):
     """A round-robin arbiter with a pointer."""
     moves = " else ".join(f"if (grant[{k}]) next(last) := {k};" for k in range(n))
@@ -507,6 +513,7 @@ FAMILIES = [
     ("FIFO, places last", fifo_late, [8, 16, 32, 64]),
     ("shift pair, copies", shift_pair, [8, 16, 32, 64]),
     ("token ring", token_ring, [8, 16, 24]),
+    ("token ring, pairs", token_pairs, [8, 16]),
     ("round robin", round_robin, [8, 16, 32]),
     ("German, no lemma", german, [2, 3, 4]),
     ("caches", caches, [2, 4, 6]),

@@ -2,6 +2,7 @@
 ghost use Rattle.std.specs.Prelude.{◌≡◌, ◌<◌, ◌≤◌, length, min, true, All, IfOk, IfSome, take_while};
 ghost use Rattle.smv_lex.specs.Lexing.{is_blank, is_letter, is_digit, is_name_byte, is_in_line, number_of, word_front, word_kind, number_front, sign_front, comment_front, closing, front_of};
 
+use crate::letters::{digit, digits_length, letter, word_length};
 use crate::spellings::{reserved_of, sign_of};
 use smv_core::name::Name;
 use smv_core::token::TokenKind;
@@ -26,35 +27,6 @@ fn blank(b: u8) -> bool
     ensures { result ≡ is_blank b }
 {
     b == b'\t' || b == b'\n' || b == b'\r' || b == b' '
-}
-
-fn letter(b: u8) -> bool
-    ensures { result ≡ is_letter b }
-{
-    b >= b'A' && b <= b'Z' || b >= b'a' && b <= b'z' || b == b'_'
-}
-
-fn digit(b: u8) -> bool
-    ensures { result ≡ is_digit b }
-{
-    b >= b'0' && b <= b'9'
-}
-
-fn word_length(bytes: &[u8]) -> usize
-    ensures length { result ≡ length (take_while is_name_byte bytes.now) }
-    ensures within { result ≤ length bytes.now }
-{
-    bytes
-        .iter()
-        .take_while(|b| letter(**b) || digit(**b))
-        .count()
-}
-
-fn digits_length(bytes: &[u8]) -> usize
-    ensures length { result ≡ length (take_while is_digit bytes.now) }
-    ensures within { result ≤ length bytes.now }
-{
-    bytes.iter().take_while(|b| digit(**b)).count()
 }
 
 fn line_length(bytes: &[u8]) -> usize

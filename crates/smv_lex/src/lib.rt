@@ -9,6 +9,7 @@ ghost use Rattle.smv_lex.specs.Lexing.{lexed};
 
 mod front;
 pub mod laws;
+pub mod letters;
 mod spellings;
 
 use front::{Front, read_front};

@@ -2,6 +2,7 @@
 ghost use Rattle.std.specs.Prelude.{◌≡◌, [], IfOk};
 ghost use Rattle.clap.specs.Simple.{app_of};
 ghost use Rattle.smv_command.specs.Built.{HasShape, HasRule};
+ghost use Rattle.smv_command.specs.CommandLine as smv;
 ghost use Rattle.smv_look_command.specs.CommandLine as line;
 
 use clap::{Arg, Command, value_parser};
@@ -15,7 +16,9 @@ pub(crate) fn smv_look<'a>(alloc: Global) -> Result<Command<'a>, AllocError>
         .subcommand(Command::new(alloc, "list"))?
         .subcommand(cone(alloc)?)?
         .subcommand(Command::new(alloc, "lint"))?
-        .subcommand(Command::new(alloc, "explain"))
+        .subcommand(Command::new(alloc, "explain"))?
+        .subcommand(sets(alloc)?)?
+        .subcommand(Command::new(alloc, "front"))
 }
 
 // The command before its subcommands.
@@ -38,6 +41,16 @@ fn cone<'a>(alloc: Global) -> Result<Command<'a>, AllocError>
         .arg(case(alloc))
 }
 
+fn sets<'a>(alloc: Global) -> Result<Command<'a>, AllocError>
+    ensures { IfOk result (HasShape line.sets) }
+{
+    Command::new(alloc, "sets")
+        .arg(name(alloc))?
+        .arg(any_case(alloc))?
+        .arg(nodes(alloc))?
+        .arg(steps(alloc))
+}
+
 fn name<'a>(alloc: Global) -> Arg<'a>
     ensures { HasRule line.name result }
 {
@@ -50,4 +63,28 @@ fn case<'a>(alloc: Global) -> Arg<'a>
     Arg::new(alloc, "CASE")
         .value_parser(value_parser!(u32).range(1..=4096))
         .default_value("1")
+}
+
+fn any_case<'a>(alloc: Global) -> Arg<'a>
+    ensures { HasRule line.any_case result }
+{
+    Arg::new(alloc, "CASE").value_parser(value_parser!(u32).range(1..=4096))
+}
+
+fn nodes<'a>(alloc: Global) -> Arg<'a>
+    ensures { HasRule smv.nodes result }
+{
+    Arg::new(alloc, "nodes")
+        .long("nodes")
+        .value_parser(value_parser!(u32).range(1..=16_777_216))
+        .default_value("1000000")
+}
+
+fn steps<'a>(alloc: Global) -> Arg<'a>
+    ensures { HasRule smv.steps result }
+{
+    Arg::new(alloc, "steps")
+        .long("steps")
+        .value_parser(value_parser!(u32).range(1..=100_000))
+        .default_value("1000")
 }

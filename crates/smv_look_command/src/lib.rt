@@ -6,6 +6,7 @@
 mod command_line;
 mod queries;
 mod words;
+pub mod words_laws;
 
 pub use queries::Query;
 pub use words::query_of;

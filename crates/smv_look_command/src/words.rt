@@ -1,17 +1,18 @@
 // What the words of a command line ask for, read by clap.
-ghost use Rattle.std.specs.Prelude.{◌≡◌, Some, codes, is_some, map, option_and_then, true, IfOk};
+ghost use Rattle.std.specs.Prelude.{◌≡◌, ◌≤◌, ℕ, Some, codes, is_some, map, option_and_then, true, IfOk};
 ghost use Rattle.std.specs.String.{string_bytes};
 ghost use Rattle.clap.specs.Matches.{found_of};
 ghost use Rattle.clap.specs.Walk.{first_of, rows_of};
 ghost use Rattle.clap.specs.Simple.{subcommand_rows_of};
-ghost use Rattle.smv_command.specs.Commands.{number_in};
-ghost use Rattle.smv_look_command.specs.Queries.{most_cases, named, query_of};
+ghost use Rattle.smv_command.specs.Commands.{budgets_in, number, number_in};
+ghost use Rattle.smv_look_command.specs.Queries.{any_case_in, most_cases, named, query_of};
 
 use crate::Query;
 use crate::command_line::smv_look;
 use clap::ArgMatches;
 use clap::error::ErrorKind;
 use smv_core::Name;
+use smv_problem::Budgets;
 use std::alloc::{AllocError, Global};
 
 /// What the words ask for, or none where clap gives no matches. The words are those behind the program's name.
@@ -56,6 +57,17 @@ fn named(alloc: Global, word: &str, matches: &ArgMatches<'_>) -> Result<Query, A
         Ok(Query::Lint)
     } else if word == "explain" {
         Ok(Query::Explain)
+    } else if word == "sets" {
+        let name = text_in(alloc, matches, "NAME")?;
+        let case = any_case_in(matches);
+        let budgets = budgets_in(matches);
+        Ok(Query::Sets {
+            name,
+            case,
+            budgets,
+        })
+    } else if word == "front" {
+        Ok(Query::Front)
     } else {
         unreachable!()
     }
@@ -68,6 +80,50 @@ fn case_in(matches: &ArgMatches<'_>) -> usize
 {
     match matches.get_one::<u32>("CASE") {
         Some(number) => number as usize,
+        None => unreachable!(),
+    }
+}
+
+// The number of the case, where one is given.
+fn any_case_in(matches: &ArgMatches<'_>) -> Option<usize>
+    requires { is_some (any_case_in (rows_of (found_of matches.now))) ≡ true }
+    ensures { any_case_in (rows_of (found_of matches.now)) ≡ Some result }
+{
+    match matches.get_str("CASE") {
+        Some(word) => Some(case_of(word)),
+        None => None,
+    }
+}
+
+// The number that a word spells.
+fn case_of(word: &str) -> usize
+    requires { is_some (number most_cases word.now) ≡ true }
+    ensures { number most_cases word.now ≡ Some result }
+{
+    match word.parse::<u32>() {
+        Ok(number) => number as usize,
+        Err(_) => unreachable!(),
+    }
+}
+
+// The two budgets.
+fn budgets_in(matches: &ArgMatches<'_>) -> Budgets
+    requires { is_some (budgets_in (rows_of (found_of matches.now))) ≡ true }
+    ensures { budgets_in (rows_of (found_of matches.now)) ≡ Some result }
+{
+    Budgets {
+        nodes: budget_in(matches, "nodes"),
+        steps: budget_in(matches, "steps"),
+    }
+}
+
+// The number of a budget.
+fn budget_in(matches: &ArgMatches<'_>, id: &str) -> u32
+    requires { (most : ℕ) × (most ≤ 4294967295) × (is_some (number_in most id.now (rows_of (found_of matches.now))) ≡ true) }
+    ensures { (most : ℕ) → is_some (number_in most id.now (rows_of (found_of matches.now))) ≡ true → number_in most id.now (rows_of (found_of matches.now)) ≡ Some result }
+{
+    match matches.get_one::<u32>(id) {
+        Some(number) => number,
         None => unreachable!(),
     }
 }

@@ -1,15 +1,13 @@
 -- The case of a number, and what is due to it.
-use Rattle.std.proofs.Common.{◌≡◌, ◌∙◌, ℕ, ◌-◌, ◌<◌, List, map, length, Option, Some, None, refl, sym, ap, subst}
+use Rattle.std.proofs.Common.{◌≡◌, ◌∙◌, ℕ, ◌-◌, ◌<◌, List, length, Option, Some, sym, ap, subst}
 use Rattle.std.specs.Prelude.{option_map, slice_get, get_or}
 use Rattle.std.proofs.lemmas.Option.{slice_get-map, slice_get-get_or}
 use Rattle.law_lists.proofs.Lists.{length_map}
 use Rattle.smv_core.specs.declared.flat.Design.{Design}
-use Rattle.smv_core.specs.declared.flat.Unit.{Unit}
 use Rattle.smv_core.specs.declared.flat.Leaf.{Leaf}
 use Rattle.smv_core.specs.declared.flat.Choice.{Choice}
 use Rattle.smv_core.specs.declared.flat.Case.{Case}
 use Rattle.smv_core.specs.declared.flat.Class.{Class}
-use Rattle.law_obligations.specs.Sets.{Has}
 use Rattle.law_obligations.specs.LeafCases.{leaf_cases}
 use Rattle.law_obligations.proofs.OneOfEach.{get_Has}
 use Rattle.law_problems.specs.Parts.{IsCaseOf}
@@ -17,9 +15,7 @@ use Rattle.law_valid_texts.specs.PartLaws.{CasesAreOfLeaves}
 use Rattle.law_valid_texts.specs.Rooms.{HasRoom, IsWholePlan}
 use Rattle.smv_problem.specs.declared.report.Plan.{Plan}
 use Rattle.smv_cases.specs.Slots.{classes_of}
-use Rattle.smv_look_lines.specs.Cones.{count_line}
-use Rattle.smv_look_run.specs.Cases.{case_numbered, case_text, classes_of_cases, cone_status, cone_text}
-use Rattle.smv_look_run.specs.declared.Status.{Status}
+use Rattle.smv_look_run.specs.Cases.{case_numbered, classes_of_cases}
 
 -- the element at a place of a list that a slice shows
 pub part_at : {X : Type 0} (xs shown : List X) (u : ℕ) (x : X) → shown ≡ xs → u < length xs → x ≡ get_or shown u x → slice_get xs u ≡ Some x

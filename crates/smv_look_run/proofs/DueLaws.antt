@@ -4,6 +4,7 @@ use Rattle.smv_core.specs.declared.fault.Fault.{Fault}
 use Rattle.smv_core.specs.declared.fault.Refusal.{Refusal}
 use Rattle.smv_core.specs.declared.fault.Refusal.TheVariants as refusal
 use Rattle.smv_core.specs.declared.flat.Unit.{Unit}
+use Rattle.smv_problem.specs.declared.report.Budgets.{Budgets}
 use Rattle.smv_problem.specs.declared.report.Plan.{Plan}
 use Rattle.smv_core.specs.declared.tree.Text.{Text}
 use Rattle.smv_parse.specs.Spelling.{SpellsText}
@@ -17,10 +18,12 @@ use Rattle.smv_look_command.specs.declared.queries.Query.{Query}
 use Rattle.smv_look_command.specs.declared.queries.Query.TheVariants as query
 use Rattle.smv_look_lines.specs.Lists.{list_lines}
 use Rattle.smv_look_lint.specs.Lines.{lint_lines}
+use Rattle.smv_look_sets.specs.Sought.{front}
 use Rattle.smv_look_run.specs.declared.Status.{Status}
 use Rattle.smv_look_run.specs.declared.Status.TheVariants.{Written, Refused}
 use Rattle.smv_look_run.specs.Cases.{IsShownAt}
-use Rattle.smv_look_run.specs.Dues.{IsDue, faultless, lint_status, linted, listed, refusal_text, shown, unnamed}
+use Rattle.smv_look_run.specs.Sets.{AreSetsAt}
+use Rattle.smv_look_run.specs.Dues.{IsDue, fronted, lint_status, linted, listed, name_asked, refusal_text, shown, sought, unnamed}
 use Rattle.smv_look_run.proofs.Endings.{due_fault}
 
 -- the fault that a call answers
@@ -46,16 +49,21 @@ module _ (asked : Query) (text : List ℕ) (plan : Plan) (has : HasPlan text pla
   pub due_lint : (tree : Text) (due : Status) (answer : List ℕ) → SpellsText text tree → asked ≡ query.Lint → due ≡ lint_status answer → answer ≡ lint_lines text tree plan → IsDue asked text due answer
   due_lint tree due answer spelled is e f = rw is (rw e (rw f (linted tree plan spelled has)))
 
-  -- nothing to explain
-  pub due_faultless : (due : Status) (answer : List ℕ) → asked ≡ query.Explain → due ≡ Written → answer ≡ [] → IsDue asked text due answer
-  due_faultless due answer is e f = rw is (rw e (rw f (faultless plan has)))
+  -- what stands before the sets in a document
+  pub due_front : (due : Status) (answer : List ℕ) → asked ≡ query.Front → due ≡ Written → answer ≡ front text → IsDue asked text due answer
+  due_front due answer is e f = rw is (rw e (rw f (fronted plan has)))
 
-  module _ (name shown_name : List ℕ) (number : ℕ) (is : asked ≡ query.Cone name number) (units : List Unit) (same : units ≡ plan.units) (bytes : shown_name ≡ name) where
+  module _ (name shown_name : List ℕ) (units : List Unit) (same : units ≡ plan.units) (bytes : shown_name ≡ name) where
     -- the case of the unit that has the name
-    pub due_shown : (place : Option ℕ) (u : ℕ) (due : Status) (answer : List ℕ) → place ≡ place_of (is_named plan.design shown_name) units → place ≡ Some u → IsShownAt plan u number due answer → IsDue asked text due answer
-    due_shown place u due answer found at there = rw is (shown name number plan u has (found_among plan name shown_name units same bytes place (Some u) found at) there)
+    pub due_shown : (number : ℕ) → asked ≡ query.Cone name number → (place : Option ℕ) (u : ℕ) (due : Status) (answer : List ℕ) → place ≡ place_of (is_named plan.design shown_name) units → place ≡ Some u → IsShownAt plan u number due answer → IsDue asked text due answer
+    due_shown number is place u due answer found at there = rw is (shown name number plan u has (found_among plan name shown_name units same bytes place (Some u) found at) there)
+
+    -- its sets
+    pub due_sought : (case : Option ℕ) (budgets : Budgets) → asked ≡ query.Sets name case budgets → (place : Option ℕ) (u : ℕ) (due : Status) (answer : List ℕ) → place ≡ place_of (is_named plan.design shown_name) units → place ≡ Some u →
+        AreSetsAt plan u case budgets due answer → IsDue asked text due answer
+    due_sought case budgets is place u due answer found at there = rw is (sought name case budgets plan u has (found_among plan name shown_name units same bytes place (Some u) found at) there)
 
     -- no unit has it
-    pub due_unnamed : (place : Option ℕ) (due : Status) (answer : List ℕ) → place ≡ place_of (is_named plan.design shown_name) units → place ≡ None → due ≡ Refused → answer ≡ refusal_text asked text 26 0 → IsDue asked text due answer
-    due_unnamed place due answer found none e f =
-        due_fault asked text 26 0 due answer (rw is (unnamed name number plan has (found_among plan name shown_name units same bytes place None found none))) e f
+    pub due_unnamed : name_asked asked ≡ Some name → (place : Option ℕ) (due : Status) (answer : List ℕ) → place ≡ place_of (is_named plan.design shown_name) units → place ≡ None → due ≡ Refused → answer ≡ refusal_text asked text 26 0 → IsDue asked text due answer
+    due_unnamed about place due answer found none e f =
+        due_fault asked text 26 0 due answer (unnamed name plan about has (found_among plan name shown_name units same bytes place None found none)) e f

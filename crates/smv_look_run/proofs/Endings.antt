@@ -12,10 +12,16 @@ use Rattle.smv_command.specs.declared.commands.Command.{Command}
 use Rattle.law_answers.specs.Dues.{limit, too_long}
 use Rattle.smv_look_command.specs.declared.queries.Query.{Query}
 use Rattle.smv_look_lint.specs.Lines.{lint_lines}
+use Rattle.smv_look_reports.specs.Explained.{are_all_true}
 use Rattle.smv_look_run.specs.declared.Status.{Status}
-use Rattle.smv_look_run.specs.declared.Status.TheVariants.{Written, Warned, NoCase, Refused, Usage, ReadFault, WriteFault, OutOfMemory}
+use Rattle.smv_look_run.specs.declared.Status.TheVariants.{Written, Warned, NoCase, SomeFalse, SomeUnknown, Refused, Usage, ReadFault, WriteFault, OutOfMemory}
+use Rattle.smv_problem.specs.declared.report.Verdict.{Verdict}
+use Rattle.smv_problem.specs.declared.report.Verdict.TheVariants.{True, False, UnknownNodes, UnknownSteps}
+use Rattle.smv_look_sets.specs.declared.sought.Sought.{Sought}
+use Rattle.smv_look_sets.specs.declared.sought.Sought.TheVariants as found
 use Rattle.smv_look_run.specs.Cases.{IsShownAt, cone_status}
-use Rattle.smv_look_run.specs.Dues.{Ends, Gave, IsDue, IsDueTo, IsFault, explained, faulty, faultless, lint_status, linted, listed, refusal_text, refused, shown, usage_line}
+use Rattle.smv_look_run.specs.Sets.{AreSetsAt, sought_status, verdict_status}
+use Rattle.smv_look_run.specs.Dues.{Ends, Gave, IsDue, IsDueTo, IsFault, explained, faulty, fronted, lint_status, linted, listed, refusal_text, refused, report_status, reported, shown, sought, usage_line}
 
 -- ---- what the source gave
 
@@ -48,11 +54,28 @@ of_lint : (lines : List ℕ) → is_answered (lint_status lines) ≡ true
 of_lint [] = refl
 of_lint (byte ∷ lines) = refl
 
+of_report : (are_true : Bool) → is_answered (report_status are_true) ≡ true
+of_report true = refl
+of_report false = refl
+
+of_verdict : (verdict : Verdict) → is_answered (verdict_status verdict) ≡ true
+of_verdict True = refl
+of_verdict (False case elements path) = refl
+of_verdict (UnknownNodes case count) = refl
+of_verdict (UnknownSteps case) = refl
+
+of_sought : (sought : Sought) → is_answered (sought_status sought) ≡ true
+of_sought (found.Sets sets) = refl
+of_sought (found.Open verdict) = of_verdict verdict
+of_sought (found.NoCase count) = refl
+
 of_query : (asked : Query) (text : List ℕ) (due : Status) (answer : List ℕ) → IsDue asked text due answer → is_answered due ≡ true
 of_query _ text _ _ (listed plan has) = refl
 of_query _ text _ _ (shown name number plan u has first at) = ap is_answered at.status ∙ of_case _
 of_query _ text _ _ (linted tree plan spelled has) = of_lint (lint_lines text tree plan)
-of_query _ text _ _ (faultless plan has) = refl
+of_query _ text _ _ (reported plan report has right) = of_report (are_all_true report.units)
+of_query _ text _ _ (sought name case budgets plan u has first at) = ap is_answered at.status ∙ of_sought at.sought
+of_query _ text _ _ (fronted plan has) = refl
 of_query asked text _ _ (refused number at fault) = refl
 
 answers : (asked : Option Query) (text : List ℕ) (due : Status) (answer : List ℕ) → IsDueTo asked text due answer → is_answered due ≡ true
@@ -61,6 +84,13 @@ answers (Some asked) text due answer is = of_query asked text due answer is
 
 pub no_write_fault : (asked : Option Query) (text : List ℕ) (due : Status) (answer : List ℕ) → IsDueTo asked text due answer → due ≢ WriteFault
 no_write_fault asked text due answer is e = true≢false (sym (answers asked text due answer is) ∙ ap is_answered e)
+
+-- a call that wrote an answer, or a front of it, ends neither by a fault of the source nor for want of memory
+pub written : (asked : Query) (text : List ℕ) (due r : Status) (answer : List ℕ) → IsDue asked text due answer → (r ≡ due) ⊎ (r ≡ WriteFault) → (r ≡ ReadFault) ⊎ (r ≡ OutOfMemory) → ⊥
+written asked text due r answer is (inl same) (inl e) = true≢false (sym (of_query asked text due answer is) ∙ (ap is_answered (sym same) ∙ ap is_answered e))
+written asked text due r answer is (inl same) (inr e) = true≢false (sym (of_query asked text due answer is) ∙ (ap is_answered (sym same) ∙ ap is_answered e))
+written asked text due r answer is (inr fault) (inl e) = absurd (cc (fault, e))
+written asked text due r answer is (inr fault) (inr e) = absurd (cc (fault, e))
 
 pub finished : (status r : Status) (asked : Option Query) (text answer : List ℕ) (old new : Option (List ℕ)) → IsDueTo asked text status answer →
     (r ≡ status → Appends old new answer) → (r ≡ WriteFault → TookFront old new answer) → (r ≡ status) ⊎ (r ≡ WriteFault) → Ends r asked text old new
@@ -71,6 +101,8 @@ finished status r asked text answer old new due taken front (inl e) = rw e (whol
     whole Written is due all = (answer, due, all)
     whole Warned is due all = (answer, due, all)
     whole NoCase is due all = (answer, due, all)
+    whole SomeFalse is due all = (answer, due, all)
+    whole SomeUnknown is due all = (answer, due, all)
     whole Refused is due all = (answer, due, all)
     whole Usage is due all = (answer, due, all)
     whole ReadFault is due all = absurd (true≢false (sym is))

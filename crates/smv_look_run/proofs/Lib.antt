@@ -2,3 +2,4 @@ pub mod Endings
 pub mod PlanLaws
 pub mod CaseLaws
 pub mod DueLaws
+pub mod ReportLaws

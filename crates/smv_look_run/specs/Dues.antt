@@ -1,39 +1,54 @@
 -- What a call owes: its status and its whole answer.
-use Rattle.std.specs.Prelude.{◌≡◌, ℕ, List, [], ◌∷◌, ◌++◌, codes, Option, Some, None, IfSome, if◌then◌else◌, nat_eq}
+use Rattle.std.specs.Prelude.{◌≡◌, ℕ, List, [], ◌∷◌, ◌++◌, codes, Option, Some, None, Bool, true, false, IfSome, if◌then◌else◌, nat_eq}
 use Rattle.std.specs.Io.KnownBytes.{Appends, Keeps}
 use Rattle.smv_core.specs.declared.fault.Fault.{Fault}
 use Rattle.smv_core.specs.declared.tree.Text.{Text}
 use Rattle.smv_parse.specs.Spelling.{SpellsText}
+use Rattle.smv_problem.specs.declared.report.Budgets.{Budgets}
 use Rattle.smv_problem.specs.declared.report.Plan.{Plan}
+use Rattle.smv_problem.specs.declared.report.Report.{Report}
 use Rattle.smv_io.specs.Transfers.{TookFront}
 use Rattle.smv_report.specs.Lines.{fault_text}
 use Rattle.law_obligations.specs.Outlines.{place_of}
+use Rattle.law_answers.specs.Dues.{default_bits, default_nodes, default_steps}
+use Rattle.law_valid_texts.specs.Reports.{IsRightReport}
 use Rattle.smv_read_design.specs.Answers.{HasPlan, IsFaultOf}
 use Rattle.smv_read_design.specs.Named.{is_named}
 use Rattle.smv_look_command.specs.declared.queries.Query.{Query}
 use Rattle.smv_look_command.specs.declared.queries.Query.TheVariants as query
 use Rattle.smv_look_lines.specs.Lists.{list_lines}
 use Rattle.smv_look_lint.specs.Lines.{lint_lines}
+use Rattle.smv_look_reports.specs.Explained.{are_all_true, explain_lines}
+use Rattle.smv_look_sets.specs.Sought.{front}
 use Rattle.smv_look_explain.specs.Faults.{fault_lines, unshown_lines}
 use Rattle.smv_look_run.specs.declared.Status.{Status}
-use Rattle.smv_look_run.specs.declared.Status.TheVariants.{Written, Warned, NoCase, Refused, Usage, ReadFault, WriteFault, OutOfMemory}
+use Rattle.smv_look_run.specs.declared.Status.TheVariants.{Written, Warned, NoCase, SomeFalse, SomeUnknown, Refused, Usage, ReadFault, WriteFault, OutOfMemory}
 use Rattle.smv_look_run.specs.Cases.{IsShownAt}
+use Rattle.smv_look_run.specs.Sets.{AreSetsAt}
 
 -- the exit status of the program
 abbrev pub number_of : Status → ℕ
 number_of Written = 0
 number_of Warned = 1
 number_of NoCase = 1
+number_of SomeFalse = 1
+number_of SomeUnknown = 2
 number_of Refused = 3
 number_of Usage = 4
 number_of ReadFault = 5
 number_of WriteFault = 6
 number_of OutOfMemory = 7
 
+-- the name of the unit that a query is about
+abbrev pub name_asked : Query → Option (List ℕ)
+name_asked (query.Cone name number) = Some name
+name_asked (query.Sets name case budgets) = Some name
+name_asked _ = None
+
 -- the first fault of a text, which is that of each command that decides units; or that no unit has the name that is asked for
 pub data IsFault : Query → List ℕ → ℕ → ℕ → Type 0 where
   faulty : {asked : Query} {text : List ℕ} (fault : Fault) → IsFaultOf text fault → IsFault asked text fault.number fault.at
-  unnamed : {text : List ℕ} (name : List ℕ) (number : ℕ) (plan : Plan) → HasPlan text plan → place_of (is_named plan.design name) plan.units ≡ None → IsFault (query.Cone name number) text 26 0
+  unnamed : {asked : Query} {text : List ℕ} (name : List ℕ) (plan : Plan) → name_asked asked ≡ Some name → HasPlan text plan → place_of (is_named plan.design name) plan.units ≡ None → IsFault asked text 26 0
 
 -- the lines of a fault with the line of the text where it stands, which is not shown where the text is too long
 abbrev pub explained : List ℕ → ℕ → ℕ → List ℕ
@@ -49,17 +64,26 @@ abbrev pub lint_status : List ℕ → Status
 lint_status [] = Written
 lint_status (byte ∷ lines) = Warned
 
+-- the status under which the lines of a report are written, by whether every unit is true
+abbrev pub report_status : Bool → Status
+report_status true = Written
+report_status false = Warned
+
 -- the status and the whole answer that a query and its text call for
 pub data IsDue : Query → List ℕ → Status → List ℕ → Type 0 where
   listed : {text : List ℕ} (plan : Plan) → HasPlan text plan → IsDue query.List text Written (list_lines text plan)
   shown : {text : List ℕ} {due : Status} {answer : List ℕ} (name : List ℕ) (number : ℕ) (plan : Plan) (u : ℕ) → HasPlan text plan → place_of (is_named plan.design name) plan.units ≡ Some u → IsShownAt plan u number due answer →
       IsDue (query.Cone name number) text due answer
   linted : {text : List ℕ} (tree : Text) (plan : Plan) → SpellsText text tree → HasPlan text plan → IsDue query.Lint text (lint_status (lint_lines text tree plan)) (lint_lines text tree plan)
-  faultless : {text : List ℕ} (plan : Plan) → HasPlan text plan → IsDue query.Explain text Written []
+  reported : {text : List ℕ} (plan : Plan) (report : Report) → HasPlan text plan → IsRightReport text default_bits default_nodes default_steps report →
+      IsDue query.Explain text (report_status (are_all_true report.units)) (explain_lines plan report)
+  sought : {text : List ℕ} {due : Status} {answer : List ℕ} (name : List ℕ) (case : Option ℕ) (budgets : Budgets) (plan : Plan) (u : ℕ) → HasPlan text plan → place_of (is_named plan.design name) plan.units ≡ Some u → AreSetsAt plan u case budgets due answer →
+      IsDue (query.Sets name case budgets) text due answer
+  fronted : {text : List ℕ} (plan : Plan) → HasPlan text plan → IsDue query.Front text Written (front text)
   refused : {asked : Query} {text : List ℕ} (number at : ℕ) → IsFault asked text number at → IsDue asked text Refused (refusal_text asked text number at)
 
 abbrev pub usage_line : List ℕ
-usage_line = codes "usage: smv_look list|cone NAME [CASE]|lint|explain < TEXT" ++ 10 ∷ []
+usage_line = codes "usage: smv_look list|cone NAME [CASE]|lint|explain|sets NAME [CASE]|front < TEXT" ++ 10 ∷ []
 
 -- the same for words, which may be no query
 abbrev pub IsDueTo : Option Query → List ℕ → Status → List ℕ → Type 0

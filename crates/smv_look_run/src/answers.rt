@@ -6,12 +6,15 @@ ghost use Rattle.law_obligations.specs.Units.{units_of};
 ghost use Rattle.law_problems.specs.Parts.{IsCaseOf, IsPart};
 ghost use Rattle.law_valid_texts.specs.Rooms.{HasRoom, IsWholePlan};
 ghost use Rattle.smv_cases.specs.Slots.{classes_of};
+ghost use Rattle.smv_look_command.specs.Queries.{IsInRange};
 ghost use Rattle.smv_look_command.specs.declared.queries.Query.TheVariants as variant;
 ghost use Rattle.smv_read_design.specs.Answers.{HasPlan};
 ghost use Rattle.smv_look_run.specs.Cases.{IsShownAt, case_numbered, case_text, cone_status, cone_text};
 ghost use Rattle.smv_look_run.specs.Dues.{IsDue, explained, lint_status, refusal_text};
 
 use crate::Status;
+use crate::reports::reported;
+use crate::sets::{fronted, sought};
 use law_valid_texts::parts_of_texts::cases_are_of_leaves;
 use smv_cases::abs_types;
 use smv_cases::calls::cases;
@@ -42,6 +45,7 @@ pub(crate) struct Answer {
 
 /// The answer to a query and its text.
 pub(crate) fn answer_to(alloc: Global, query: &Query, text: &[u8]) -> Result<Answer, AllocError>
+    requires { IsInRange query.now }
     ensures { IfOk result (λ answer. IsDue query.now text.now answer.status answer.bytes.items) }
 {
     if text.len() > LIMIT {
@@ -52,7 +56,8 @@ pub(crate) fn answer_to(alloc: Global, query: &Query, text: &[u8]) -> Result<Ans
 
 // The same of a text that is short enough.
 fn looked(alloc: Global, query: &Query, text: &[u8]) -> Result<Answer, AllocError>
-    requires { length text.now ≤ limit }
+    requires short { length text.now ≤ limit }
+    requires range { IsInRange query.now }
     ensures { IfOk result (λ answer. IsDue query.now text.now answer.status answer.bytes.items) }
 {
     plans_of_valid_texts_are_whole();
@@ -66,6 +71,7 @@ fn looked(alloc: Global, query: &Query, text: &[u8]) -> Result<Answer, AllocErro
 // What a query asks of the plan of its text.
 fn told(alloc: Global, query: &Query, text: &[u8], plan: &Plan) -> Result<Answer, AllocError>
     requires short { length text.now ≤ limit }
+    requires range { IsInRange query.now }
     requires plan { HasPlan text.now plan.now }
     requires whole { IsWholePlan plan.now }
     ensures { IfOk result (λ answer. IsDue query.now text.now answer.status answer.bytes.items) }
@@ -74,7 +80,13 @@ fn told(alloc: Global, query: &Query, text: &[u8], plan: &Plan) -> Result<Answer
         Query::List => listed(alloc, query, text, plan),
         Query::Cone { name, case } => named(alloc, query, text, plan, name, *case),
         Query::Lint => linted(alloc, query, text, plan),
-        Query::Explain => faultless(alloc, query, text, plan),
+        Query::Explain => reported(alloc, query, text, plan),
+        Query::Sets {
+            name,
+            case,
+            budgets,
+        } => sought(alloc, query, text, plan, name, *case, *budgets),
+        Query::Front => fronted(alloc, query, text, plan),
     }
 }
 
@@ -115,17 +127,6 @@ fn linted(alloc: Global, query: &Query, text: &[u8], plan: &Plan) -> Result<Answ
         }
         Err(_) => Err(AllocError),
     }
-}
-
-// A text without a fault, of which there is nothing to explain.
-fn faultless(alloc: Global, query: &Query, text: &[u8], plan: &Plan) -> Result<Answer, AllocError>
-    requires asks { query.now ≡ variant.Explain }
-    requires plan { HasPlan text.now plan.now }
-    ensures { IfOk result (λ answer. IsDue query.now text.now answer.status answer.bytes.items) }
-{
-    let bytes = Vec::new(alloc);
-    let status = Status::Written;
-    Ok(Answer { status, bytes })
 }
 
 // The case of a number of the unit of a name.
@@ -295,12 +296,23 @@ fn refusal(alloc: Global, query: &Query, text: &[u8], fault: Fault) -> Result<Ve
         Query::List => fault_line(alloc, text, fault),
         Query::Cone { name: _, case: _ } => fault_line(alloc, text, fault),
         Query::Lint => fault_line(alloc, text, fault),
+        Query::Sets {
+            name: _,
+            case: _,
+            budgets: _,
+        } => fault_line(alloc, text, fault),
+        Query::Front => fault_line(alloc, text, fault),
         Query::Explain => explained(alloc, text, fault),
     }
 }
 
-// The answer to a text that is refused.
-fn refused(alloc: Global, query: &Query, text: &[u8], fault: Fault) -> Result<Answer, AllocError>
+/// The answer to a text that is refused.
+pub(crate) fn refused(
+    alloc: Global,
+    query: &Query,
+    text: &[u8],
+    fault: Fault,
+) -> Result<Answer, AllocError>
     ensures status { IfOk result (λ answer. answer.status ≡ Status.Refused) }
     ensures bytes { IfOk result (λ answer. answer.bytes.items ≡ refusal_text query.now text.now fault.number fault.at) }
 {

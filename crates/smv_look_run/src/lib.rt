@@ -1,6 +1,6 @@
 //! The call of the program `smv_look`: from its words and the bytes of a text to the lines that the words ask for, and a status.
 //!
-//! For the program, which hands over its streams. `specs/Dues` says which answer is due and how a call ends, `specs/Cases` what is shown of a case; the lines are those of `smv_look_lines`. `answers` makes them.
+//! For the program, which hands over its streams. `specs/Dues` says which answer is due and how a call ends, `specs/Cases` what is shown of a case, `specs/Sets` what is answered of sets; the lines are those of `smv_look_lines` and of the crates beside it. `answers`, `sets` and `reports` make them, the last where units are decided.
 #![tactic(auto)]
 
 ghost use Rattle.std.specs.Prelude.{◌≡◌, ◌≢◌, ◌⊎◌, List, ℕ, map, None, Some};
@@ -8,13 +8,16 @@ ghost use Rattle.std.specs.Io.KnownBytes.{Appends};
 ghost use Rattle.std.specs.String.{string_bytes};
 ghost use Rattle.smv_io.specs.Causes.{Rose};
 ghost use Rattle.smv_io.specs.Transfers.{TookFront};
-ghost use Rattle.smv_look_command.specs.Queries.{query_of};
+ghost use Rattle.smv_look_command.specs.Queries.{IsInRange, query_of};
 ghost use Rattle.smv_look_run.specs.Dues.{Ends, Gave, number_of, refusal_text};
 
 mod answers;
+mod reports;
+mod sets;
 
 use answers::answer_to;
 use smv_io::{ReadError, Sink, Source, read_all, write_all};
+use smv_look_command::words_laws::numbers_are_in_range;
 use smv_look_command::{Query, query_of};
 use std::alloc::Global;
 
@@ -23,10 +26,14 @@ use std::alloc::Global;
 pub enum Status {
     /// The lines were written.
     Written,
-    /// The warnings were written, of which there is at least one.
+    /// The lines were written, and they warn of something: of what `lint` finds, or of a unit that is not true.
     Warned,
     /// The unit has no case of the number that is asked for.
     NoCase,
+    /// A case that is asked for is false.
+    SomeFalse,
+    /// The first case that is asked for and is not true is unknown.
+    SomeUnknown,
     /// The text has a fault, or no unit has the name that was asked for.
     Refused,
     /// The words are no query.
@@ -48,6 +55,8 @@ impl Status {
             Status::Written => 0,
             Status::Warned => 1,
             Status::NoCase => 1,
+            Status::SomeFalse => 1,
+            Status::SomeUnknown => 2,
             Status::Refused => 3,
             Status::Usage => 4,
             Status::ReadFault => 5,
@@ -65,7 +74,8 @@ const TOO_LONG: &[u8] = b"fault 31 at line 1 column 1\n";
 const TOO_LONG_EXPLAINED: &[u8] =
     b"fault 31 at line 1 column 1\n  | the text has more than 1,048,576 bytes\n";
 
-const USAGE: &[u8] = b"usage: smv_look list|cone NAME [CASE]|lint|explain < TEXT\n";
+const USAGE: &[u8] =
+    b"usage: smv_look list|cone NAME [CASE]|lint|explain|sets NAME [CASE]|front < TEXT\n";
 
 /// Reads a text from the source, and writes what the words ask of it to the sink.
 ///
@@ -87,6 +97,7 @@ pub fn run<S: Source, K: Sink>(
     ensures unread { query_of (map string_bytes words.now) ≡ None → source.new ≡ source.old }
     ensures unwritten { (result ≡ Status.ReadFault) ⊎ (result ≡ Status.OutOfMemory) → sink.new ≡ sink.old }
 {
+    numbers_are_in_range();
     let Ok(found) = query_of(alloc, words) else {
         return Status::OutOfMemory;
     };
@@ -98,6 +109,7 @@ pub fn run<S: Source, K: Sink>(
 
 // The call under a query.
 fn asked<S: Source, K: Sink>(alloc: Global, query: &Query, source: &mut S, sink: &mut K) -> Status
+    requires { IsInRange query.now }
     ensures ends { (text : List ℕ) × Gave (S.left source.old) text × Ends result (Some query.now) text (K.taken sink.old) (K.taken sink.new) }
     ensures read_fault { result ≡ Status.ReadFault → Rose (S.faults source.old) (S.faults source.new) }
     ensures write_fault { result ≡ Status.WriteFault → Rose (K.faults sink.old) (K.faults sink.new) }
@@ -122,6 +134,12 @@ fn too_long(query: &Query) -> &'static [u8]
         Query::List => TOO_LONG,
         Query::Cone { name: _, case: _ } => TOO_LONG,
         Query::Lint => TOO_LONG,
+        Query::Sets {
+            name: _,
+            case: _,
+            budgets: _,
+        } => TOO_LONG,
+        Query::Front => TOO_LONG,
         Query::Explain => TOO_LONG_EXPLAINED,
     }
 }

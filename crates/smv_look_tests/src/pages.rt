@@ -66,6 +66,42 @@ const ROWS_2: &[Row] = &[
         3,
         "fault 7 at line 3 column 12\n  |   ready := raedy;\n  |            ^ a name or a field is not declared\n",
     ),
+    (
+        "explain",
+        "scalarset WORD undefined;\nscalarset REG undefined;\nmodule main() {\n  issue : boolean;\n  src, dst : REG;\n  reg : array REG of WORD;\n  f : array WORD of WORD;\n  opa, alu : WORD;\n  ex : struct { valid : boolean; dst : REG; val : WORD; };\n\n  forall (w in WORD) next(f[w]) := f[w];\n  opa := reg[src];\n  init(ex.valid) := 0;\n  next(ex.valid) := issue;\n  next(ex.dst) := dst;\n  next(ex.val) := opa;\n  alu := f[ex.val];\n  if (ex.valid) next(reg[ex.dst]) := alu;\n\n  abstract r : array REG of WORD;\n  abstract operand, result : WORD;\n  layer arch : {\n    operand := r[src];\n    result := f[operand];\n    forall (k in REG) init(r[k]) := reg[k];\n    if (issue) next(r[dst]) := result;\n    if (issue) opa := operand;\n  }\n  forall (j in REG) forall (c in WORD)\n    subcase opa1[j][c] of opa//arch for src = j, r[src] = c;\n}\n",
+        1,
+        "opa//arch: false at 1\n case #0, #0\n                    0   1\n issue              1   .\n src                *  #0\n dst               #0   .\n reg[#0]            *   .\n f[#0]             #0   .\n opa target        #0   *\n alu               #0   .\n ex.valid           0   1\n ex.dst            #0   .\n ex.val            #0   .\n r[#0] abstract     *  #0\n operand abstract  #0   .\n result abstract   #0   .\nproved 0 of 1\n",
+    ),
+    (
+        "explain",
+        "module main() {\n  go, stop, dark, run, lamp : boolean;\n  init(run) := 0;\n  next(run) := go & ~stop;\n  lamp := run & ~dark;\n\n  abstract wanted : boolean;\n  layer spec : {\n    init(wanted) := 0;\n    next(wanted) := go;\n    run := wanted;\n    lamp := wanted;\n  }\n  calm : assert G ~stop;\n  using (calm) prove run//spec;\n  using run//spec, dark//free prove lamp//spec;\n}\n",
+        1,
+        "run//spec: true\n leans on calm, which is false\nlamp//spec: false at 1\n                  0  1\n go               1  0\n dark             0  1\n run              0  1\n lamp target      0  .\n wanted abstract  0  1\n use run//spec now\n free dark\ncalm: false at 0\n       0\n stop  1\nproved 1 of 3\n",
+    ),
+    (
+        "explain",
+        "module main() {\n  mode : boolean;\n  low, high : 0..255;\n  init(mode) := 0;\n  next(mode) := mode;\n  init(low) := 0;\n  init(high) := 0;\n  next(low) := (low + 1) mod 256;\n  if (low = 255) next(high) := (high + 1) mod 256;\n  far : assert G ~(mode & low = 255 & high = 255);\n}\n",
+        1,
+        "far: unknown steps\n bits 17\n low: bits 8, base, state\n high: bits 8, base, state\n mode: bits 1, base, state\nproved 0 of 1\n",
+    ),
+    (
+        "sets p",
+        "/* A bit that changes at each step, and a claim that is true of any bit. */\nmodule main() {\n  x : boolean;\n  init(x) := 0;\n  next(x) := ~x;\n  p : assert G (x | ~x);\n}\n",
+        0,
+        "set p 0 1 0\n",
+    ),
+    (
+        "sets opa//arch 1 --nodes 1",
+        "scalarset WORD undefined;\nscalarset REG undefined;\nmodule main() {\n  issue : boolean;\n  src, dst : REG;\n  reg : array REG of WORD;\n  f : array WORD of WORD;\n  opa, alu : WORD;\n  ex : struct { valid : boolean; dst : REG; val : WORD; };\n\n  forall (w in WORD) next(f[w]) := f[w];\n  opa := reg[src];\n  init(ex.valid) := 0;\n  next(ex.valid) := issue;\n  next(ex.dst) := dst;\n  next(ex.val) := opa;\n  alu := f[ex.val];\n  if (ex.valid) next(reg[ex.dst]) := alu;\n\n  abstract r : array REG of WORD;\n  abstract operand, result : WORD;\n  layer arch : {\n    operand := r[src];\n    result := f[operand];\n    forall (k in REG) init(r[k]) := reg[k];\n    if (issue) next(r[dst]) := result;\n    if (issue) opa := operand;\n  }\n  forall (j in REG) forall (c in WORD)\n    subcase opa1[j][c] of opa//arch for src = j, r[src] = c;\n}\n",
+        2,
+        "opa//arch: unknown nodes 4\n case #0, #0\n",
+    ),
+    (
+        "front",
+        "/* A bit that changes at each step, and a claim that is true of any bit. */\nmodule main() {\n  x : boolean;\n  init(x) := 0;\n  next(x) := ~x;\n  p : assert G (x | ~x);\n}\n",
+        0,
+        "smv proof 1\ndesign 167\n/* A bit that changes at each step, and a claim that is true of any bit. */\nmodule main() {\n  x : boolean;\n  init(x) := 0;\n  next(x) := ~x;\n  p : assert G (x | ~x);\n}\n\n",
+    ),
 ];
 
 #[test]

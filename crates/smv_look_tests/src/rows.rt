@@ -9,6 +9,9 @@ use std::test::Fail;
 const TEXT: &str =
     "scalarset ID 0..2;\nmodule main() {\n  x, y : 0..5;\n  who : ID;\n  init(x) := 0;\n  next(x) := y;\n  small : assert G x < 6;\n  forall (i in ID) other : assert G (who = i | x < 6);\n  using small, y//free prove other;\n}\n";
 
+const CASES: &str =
+    "module main() {\n  x : array 0..1 of boolean;\n  forall (i in 0..1) init(x[i]) := 1;\n  forall (i in 0..1) next(x[i]) := x[i];\n  forall (i in 0..1) p[i] : assert G x[i];\n}\n";
+
 // The words, the text, the exit status and what is written.
 pub type Row = (&'static str, &'static str, u8, &'static str);
 
@@ -38,6 +41,84 @@ const ROWS: &[Row] = &[
         3,
         "fault 26 at line 1 column 1\n",
     ),
+    // Where nothing is claimed there is nothing to explain.
+    (
+        "explain",
+        "module main() { x : boolean; }\n",
+        0,
+        "proved 0 of 0\n",
+    ),
+    (
+        "explain",
+        "module main() { x : boolean; x := 1; p : assert G x; }\n",
+        0,
+        "proved 1 of 1\n",
+    ),
+    // A map, with an abstract signal.
+    (
+        "explain",
+        "module main() { x, y : boolean; x := 0; abstract a : boolean; layer L : { a := y; x := a; } }\n",
+        1,
+        "x//L: false at 0\n             0\n x target    0\n y           1\n a abstract  1\nproved 0 of 1\n",
+    ),
+    // A claim, and one that is true if the other is.
+    (
+        "explain",
+        "module main() { x, y : boolean; y := x; p : assert G x; q : assert G y; using p prove q; }\n",
+        1,
+        "p: false at 0\n    0\n x  0\nq: true\n leans on p, which is false\nproved 1 of 2\n",
+    ),
+    // A claim over a value of a scalarset, with the case.
+    (
+        "explain",
+        "scalarset ID undefined;\nmodule main() { who : ID; on : boolean; next(who) := who; init(on) := 0; next(on) := 1; forall (i in ID) p[i] : assert G (who = i -> ~on); }\n",
+        1,
+        "p: false at 1\n case #0\n       0   1\n who  #0   .\n on    0   1\nproved 0 of 1\n",
+    ),
+    (
+        "sets p",
+        "module main() {\n  x : boolean;\n  init(x) := 1;\n  next(x) := x;\n  p : assert G x;\n}\n",
+        0,
+        "set p 0 2 1\n0 0 1\n",
+    ),
+    (
+        "sets p",
+        "module main() { x : boolean; p : assert G x; }\n",
+        1,
+        "p: false at 0\n time 0: x = 0\n",
+    ),
+    (
+        "sets p 1 --steps 1 --nodes 1000",
+        "module main() { x : boolean; init(x) := 0; next(x) := ~x; p : assert G (x | ~x); }\n",
+        2,
+        "p: unknown steps\n",
+    ),
+    (
+        "sets p 2",
+        "module main() { x : boolean; p : assert G x; }\n",
+        1,
+        "p: cases 1\n",
+    ),
+    (
+        "sets q",
+        "module main() { x : boolean; p : assert G x; }\n",
+        3,
+        "fault 26 at line 1 column 1\n",
+    ),
+    // A case for each number, of which the second is looked at alone.
+    (
+        "sets p",
+        CASES,
+        0,
+        "set p 0 2 1\n0 0 1\nset p 1 2 1\n0 0 1\n",
+    ),
+    ("sets p 2", CASES, 0, "set p 1 2 1\n0 0 1\n"),
+    (
+        "front",
+        "module main() { x : boolean; }\n",
+        0,
+        "smv proof 1\ndesign 31\nmodule main() { x : boolean; }\n\n",
+    ),
     (
         "list",
         "module main() {\n  x := 1;\n}\n",
@@ -54,7 +135,8 @@ const WHOLE: Streams = (None, 4000);
 
 const CLAIM: &str = "module main() { x : boolean; p : assert G x; }\n";
 
-const USAGE: &str = "usage: smv_look list|cone NAME [CASE]|lint|explain < TEXT\n";
+const USAGE: &str =
+    "usage: smv_look list|cone NAME [CASE]|lint|explain|sets NAME [CASE]|front < TEXT\n";
 
 const STREAM_ROWS: &[(Streams, Row)] = &[
     // Where the words ask for nothing the source is not asked.
@@ -65,6 +147,10 @@ const STREAM_ROWS: &[(Streams, Row)] = &[
     ((Some(0), 4000), ("explain 7", CLAIM, 4, USAGE)),
     ((Some(0), 4000), ("cone p 0", CLAIM, 4, USAGE)),
     ((Some(0), 4000), ("cone p 4097", CLAIM, 4, USAGE)),
+    ((Some(0), 4000), ("sets", CLAIM, 4, USAGE)),
+    ((Some(0), 4000), ("sets p 0", CLAIM, 4, USAGE)),
+    ((Some(0), 4000), ("sets p --nodes 0", CLAIM, 4, USAGE)),
+    ((Some(0), 4000), ("front p", CLAIM, 4, USAGE)),
     ((Some(0), 4000), ("list", CLAIM, 5, "")),
     ((None, 5), ("list", CLAIM, 6, "p: cl")),
     ((None, 7), ("list", "x\n", 6, "fault 5")),

@@ -11,35 +11,7 @@ ghost use Rattle.smv_strengthen.specs.Fronts.{IsToken, IsTokenAt};
 use crate::bytes::{before, behind};
 use smv_core::signs::SIGNS;
 use smv_core::token::Token;
-
-fn letter(b: u8) -> bool
-    ensures { result ≡ is_letter b }
-{
-    b >= b'A' && b <= b'Z' || b >= b'a' && b <= b'z' || b == b'_'
-}
-
-fn digit(b: u8) -> bool
-    ensures { result ≡ is_digit b }
-{
-    b >= b'0' && b <= b'9'
-}
-
-fn word_length(bytes: &[u8]) -> usize
-    ensures length { result ≡ length (take_while is_name_byte bytes.now) }
-    ensures within { result ≤ length bytes.now }
-{
-    bytes
-        .iter()
-        .take_while(|b| letter(**b) || digit(**b))
-        .count()
-}
-
-fn digits_length(bytes: &[u8]) -> usize
-    ensures length { result ≡ length (take_while is_digit bytes.now) }
-    ensures within { result ≤ length bytes.now }
-{
-    bytes.iter().take_while(|b| digit(**b)).count()
-}
+use smv_lex::letters::{digit, digits_length, letter, word_length};
 
 fn is_among(words: &[&[u8]], bytes: &[u8]) -> bool
     ensures { result ≡ list_any (λ word. bytes_eq word.now bytes.now) words.now }

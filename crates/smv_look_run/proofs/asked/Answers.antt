@@ -1,7 +1,7 @@
-use Rattle.std.proofs.Common.{ap, refl, sym, Some, Err, length, ◌<◌}
+use Rattle.std.proofs.Common.{ap, sym, Some, Err, length, ◌<◌}
 use Rattle.std.proofs.KnownBytes.{Keeps-refl}
 use Rattle.law_answers.specs.Dues.{limit}
-use Rattle.smv_look_run.proofs.Endings.{due_at, due_long, finished, given, longer, some_given}
+use Rattle.smv_look_run.proofs.Endings.{due_at, due_long, finished, given, longer, some_given, written}
 use Rattle.smv_look_run.proofs.asked.Goals as goal
 
 pub returns-in-Err-ReadFault-clause-ends : goal.returns-in-Err-ReadFault-clause-ends
@@ -28,3 +28,7 @@ returns-in-Ok-answer_to-clause-ends g c =
       c.in-Ok.ensures.all,
       finished _ _ (Some c.args.query.now) text _ _ _ (due_at c.args.query.now _ _ _ _ _ c.deref.ensures.value (sym c.deref-in-Ok-answer_to.ensures.value) c.in-Ok-answer_to.ensures) f.taken f.front f.either,
     )
+
+pub returns-in-Ok-answer_to-clause-unwritten : goal.returns-in-Ok-answer_to-clause-unwritten
+returns-in-Ok-answer_to-clause-unwritten g c = λ fault.
+    absurd (written c.args.query.now c.deref.result.now c.in-Ok-answer_to.due.status c.finish-in-Ok-answer_to.result c.in-Ok-answer_to.due.bytes.items c.in-Ok-answer_to.ensures c.finish-in-Ok-answer_to.ensures.either fault)

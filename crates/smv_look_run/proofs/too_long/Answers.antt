@@ -12,3 +12,9 @@ returns-in-Lint c = λ text. rw c.in-Lint.is (line_31 text)
 
 pub returns-in-Explain : goal.returns-in-Explain
 returns-in-Explain c = λ text. rw c.in-Explain.is (explained_31 text)
+
+pub returns-in-Sets : goal.returns-in-Sets
+returns-in-Sets c = λ text. rw c.in-Sets.is (line_31 text)
+
+pub returns-in-Front : goal.returns-in-Front
+returns-in-Front c = λ text. rw c.in-Front.is (line_31 text)

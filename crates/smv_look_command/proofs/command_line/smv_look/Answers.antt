@@ -20,5 +20,9 @@ returns c =
     c.in_ok-subcommand-2.ensures.shape c.in_ok-cone.ensures.local ∙ ap₂ with_subcommand with_1 (ap top_of c.in_ok-cone.ensures.app) in
     let with_3 : app_of c.in_ok-subcommand-3.field-0 ≡ so_far (line.list ∷ line.cone ∷ line.lint ∷ []) =
     c.in_ok-subcommand-3.ensures.shape c.new-2.ensures.local ∙ ap₂ with_subcommand with_2 (ap top_of c.new-2.ensures.app) in
-    IfOk-weaker c.subcommand-4.result _ _ (λ command added. added.shape c.new-3.ensures.local ∙ ap₂ with_subcommand with_3 (ap top_of c.new-3.ensures.app))
-    c.subcommand-4.ensures
+    let with_4 : app_of c.in_ok-subcommand-4.field-0 ≡ so_far (line.list ∷ line.cone ∷ line.lint ∷ line.explain ∷ []) =
+    c.in_ok-subcommand-4.ensures.shape c.new-3.ensures.local ∙ ap₂ with_subcommand with_3 (ap top_of c.new-3.ensures.app) in
+    let with_5 : app_of c.in_ok-subcommand-5.field-0 ≡ so_far (line.list ∷ line.cone ∷ line.lint ∷ line.explain ∷ line.sets ∷ []) =
+    c.in_ok-subcommand-5.ensures.shape c.in_ok-sets.ensures.local ∙ ap₂ with_subcommand with_4 (ap top_of c.in_ok-sets.ensures.app) in
+    IfOk-weaker c.subcommand-6.result _ _ (λ command added. added.shape c.new-4.ensures.local ∙ ap₂ with_subcommand with_5 (ap top_of c.new-4.ensures.app))
+    c.subcommand-6.ensures

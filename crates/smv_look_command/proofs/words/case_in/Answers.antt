@@ -1,11 +1,10 @@
 -- The text passed its range, so `u32` reads it, and the number is the one that its digits spell.
-use Rattle.std.proofs.Common.{◌∙◌, ◌≡◌, ℕ, Option, Some, ap, arith, codes, subst, sym}
+use Rattle.std.proofs.Common.{◌∙◌, ℕ, Option, Some, ap, arith, codes, subst, sym}
 use Rattle.std.specs.Str.Parse.{ExplainsUnsignedError, HasUnsignedDigitsIfOk, ParsesUnsigned}
 use Rattle.clap.specs.Matches.{ReadsOne, found_of}
 use Rattle.clap.specs.Walk.{rows_of}
 use Rattle.clap.proofs.WalkLemmas.{one_text-rows}
-use Rattle.smv_command.specs.Commands.{number_in}
-use Rattle.smv_command.proofs.Values.{number_is, number_ranged}
+use Rattle.smv_command.proofs.Values.{number_is}
 use Rattle.smv_look_command.specs.Queries.{most_cases}
 use Rattle.smv_look_command.proofs.words.case_in.Goals as goal
 

@@ -1,4 +1,4 @@
-use Rattle.std.proofs.Common.{◌<◌, length, arith, refl}
+use Rattle.std.proofs.Common.{◌<◌, length, arith}
 use Rattle.law_lists.proofs.Options.{if_ok_both}
 use Rattle.law_answers.specs.Dues.{limit}
 use Rattle.smv_look_run.proofs.Endings.{due_fault, is_long}

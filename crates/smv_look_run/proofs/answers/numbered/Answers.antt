@@ -1,4 +1,4 @@
-use Rattle.std.proofs.Common.{◌∙◌, ◌≡◌, ℕ, ◌-◌, Some, None, ap, refl, sym, option_copied}
+use Rattle.std.proofs.Common.{◌∙◌, ℕ, Some, None, ap, refl, sym, option_copied}
 use Rattle.smv_look_lines.specs.Cones.{count_line}
 use Rattle.smv_look_run.specs.Cases.{cone_status, cone_text}
 use Rattle.smv_look_run.proofs.CaseLaws.{counted, is_case, numbered}

@@ -1,0 +1,3 @@
+pub mod CaseLaws
+pub mod OrderLaws
+pub mod Steps

@@ -1,0 +1,6 @@
+pub mod Paths
+pub mod Dearest
+pub mod Cones
+pub mod Leans
+pub mod Explained
+pub mod Cases

@@ -1,0 +1,3 @@
+pub mod SoughtLaws
+pub mod PlaceLaws
+mod LineLaws
