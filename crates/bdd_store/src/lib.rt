@@ -69,6 +69,8 @@ pub struct Store {
     // How many calls there were when results were last counted, and how many were of use since.
     counted: u64,
     hits: u64,
+    // How many nodes it may hold.
+    most: u32,
 }
 
 impl Model for Store {
@@ -78,7 +80,7 @@ impl Model for Store {
 
     ghost Value = { Diagram };
 
-    ghost view = { λ s. record { vars = s.vars; calls = s.calls; spare = min (min (vec_capacity s.nodes) (vec_capacity s.marks)) 0x1_0000_0000 - (s.held + 2); nodes = s.nodes.items; marks = s.marks.items } };
+    ghost view = { λ s. record { vars = s.vars; calls = s.calls; spare = min (min (min (vec_capacity s.nodes) (vec_capacity s.marks)) 0x1_0000_0000) (s.most + 2) - (s.held + 2); nodes = s.nodes.items; marks = s.marks.items } };
 
     ghost invariant = { λ s. Stored s.vars s.nodes.items s.heads.items s.free s.held s.marks.items s.marked s.results.items };
 }
@@ -115,7 +117,22 @@ impl Store {
             results: Vec::new(alloc),
             counted: 0,
             hits: 0,
+            most: u32::MAX,
         })
+    }
+
+    /// From now on `node` refuses a new node where so many are held: want of memory that comes early. What is held stays, also where it is more.
+    pub fn hold_at_most(&mut self, most: u32)
+        ensures spare { self.new.spare ≤ most - held self.new }
+        ensures keeps { Keeps self.old self.new }
+        ensures none_fresh { (q : Ref) → IsLive self.new q → IsLive self.old q }
+        ensures held { held self.new ≡ held self.old }
+        ensures marks { KeepsMarks self.old self.new }
+        ensures sound { IsReduced self.new }
+        ensures canonical { IsCanonical self.new }
+        ensures calls { self.new.calls ≡ self.old.calls }
+    {
+        self.most = most;
     }
 
     /// The number of variables.
@@ -170,7 +187,7 @@ impl Store {
         ensures spare { self.old.spare ≤ self.new.spare }
     {
         let used = self.held + 2;
-        if n > 0x1_0000_0000 - used {
+        if n > 0x1_0000_0000 - used || n > (self.most as usize).saturating_sub(self.held) {
             return Err(AllocError);
         }
         let more = (used + n).saturating_sub(self.nodes.len());
@@ -257,6 +274,9 @@ impl Store {
         if found != 0 {
             self.calls = self.calls.saturating_add(1);
             return Ok(Ref { place: found });
+        }
+        if self.held >= self.most as usize {
+            return Err(AllocError);
         }
         let place = add(
             &mut self.nodes,

@@ -142,6 +142,24 @@ fn makes_a_node_for_which_there_is_room(rt: HostRuntime) -> Result<(), Fail> {
     is_so(is_node_made(&mut store))
 }
 
+// A new node is refused where as many are held as may be, and one that is there is found.
+fn is_node_refused(store: &mut Store) -> Result<bool, AllocError>
+    requires two { 2 ≤ store.old.vars }
+{
+    store.hold_at_most(1);
+    let one = literal(store, 0)?;
+    let is_refused = literal(store, 1).is_err();
+    let is_found = literal(store, 0)? == one;
+    store.hold_at_most(2);
+    Ok(is_refused && is_found && literal(store, 1).is_ok())
+}
+
+#[test]
+fn refuses_a_node_beyond_those_that_may_be_held(rt: HostRuntime) -> Result<(), Fail> {
+    let mut store = Store::new(rt.alloc(), 2)?;
+    is_so(is_node_refused(&mut store))
+}
+
 // Whether a function implies itself and not the other one.
 fn is_implied(alloc: Global, store: &Store, f: Ref, other: Ref) -> Result<bool, AllocError>
     requires f_live { IsLive store.now f }

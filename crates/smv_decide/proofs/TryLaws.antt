@@ -17,7 +17,7 @@ use Rattle.smv_problem.specs.WellFormed.{IsWellFormed, OfCases}
 use Rattle.smv_bits.specs.declared.Bits.TheVariants.{Near}
 use Rattle.smv_decide.specs.declared.Decision.TheVariants as decided
 use Rattle.smv_decide.specs.declared.tries.Tried.{Tried}
-use Rattle.smv_decide.specs.declared.tries.Tried.TheVariants.{Safe, Broken, OutOfNodes, OutOfSteps}
+use Rattle.smv_decide.specs.declared.tries.Tried.TheVariants.{Safe, Broken, OutOfNodes, OutOfSteps, NoRoom}
 use Rattle.smv_decide.specs.Decisions.{IsDecided}
 use Rattle.smv_decide.specs.Tries.{IsTried, is_out}
 use Rattle.smv_decide.proofs.Deciding.{shown_by}
@@ -27,6 +27,7 @@ part_told : (c : PosedCase) → IsWellFormed c → (order : List ℕ) → IsOrde
 part_told c well order orders nodes part steps Safe e (k, v) = (k, tries_may_be_told c well.is_case (arranged order) (order_arranges c order orders) nodes part steps (Shut k) refl v)
 part_told c well order orders nodes part steps (Broken path) e (k, v, shown) = (k, tries_may_be_told c well.is_case (arranged order) (order_arranges c order orders) nodes part steps (Reached k) refl v, shown)
 part_told c well order orders nodes part steps (OutOfNodes count) e v = absurd (cc (e))
+part_told c well order orders nodes part steps NoRoom e v = absurd (cc (e))
 part_told c well order orders nodes part steps OutOfSteps e v = tries_may_be_told c well.is_case (arranged order) (order_arranges c order orders) nodes part steps Images refl v
 
 -- and whatever one over the declared order finds under the whole budget
@@ -34,6 +35,7 @@ whole_told : (c : PosedCase) → IsWellFormed c → (nodes steps : ℕ) (t : Tri
 whole_told c well nodes steps Safe (k, v) = (k, declared_may_be_told c well.is_case nodes steps (Shut k) v)
 whole_told c well nodes steps (Broken path) (k, v, shown) = (k, declared_may_be_told c well.is_case nodes steps (Reached k) v, shown)
 whole_told c well nodes steps (OutOfNodes count) v = declared_may_be_told c well.is_case nodes steps (Counted count) v
+whole_told c well nodes steps NoRoom v = v
 whole_told c well nodes steps OutOfSteps v = declared_may_be_told c well.is_case nodes steps Images v
 
 pub parts_told : (p : Problem) (order : List ℕ) → OfCases p (λ c. IsOrder (state_bits c) order) → (part steps : ℕ) (t : Tried) → OfCases p (λ c. IsTried (IsFirstEvent (lists_over c (arranged order)) part steps) c t)
@@ -55,6 +57,7 @@ pub later_told : (p : Problem) (nodes steps : ℕ) (first later : Tried) → OfC
 later_told p nodes steps first Safe before told out c is well = told c is well nodes refl
 later_told p nodes steps first (Broken path) before told out c is well = told c is well nodes refl
 later_told p nodes steps first (OutOfNodes count) before told out c is well = subst (IsTried (MayBeTold nodes steps c) c) (sym (out refl)) (before c is well)
+later_told p nodes steps first NoRoom before told out c is well = subst (IsTried (MayBeTold nodes steps c) c) (sym (out refl)) (before c is well)
 later_told p nodes steps first OutOfSteps before told out c is well = told c is well nodes refl
 
 -- what is decided by it

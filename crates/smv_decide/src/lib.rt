@@ -18,10 +18,12 @@ ghost use Rattle.smv_decide.specs.Tries.{IsTried};
 ghost use Rattle.smv_decide.specs.Tasks.{IsTask, case_in};
 
 pub mod leaves;
+mod room;
 pub mod tasks;
 pub mod tries;
 
 use bdd_store::Store;
+use room::room_for;
 use smv_bits::Bits;
 use smv_core::Seq;
 use smv_core::flat::{Case, Element};
@@ -170,30 +172,31 @@ fn over_near(alloc: Global, problem: Problem, budgets: Budgets) -> Result<Decide
     ensures shared { IfOk result (λ decided. decided.shared ≡ shared_in problem) }
 {
     let tried = tries(alloc, &problem, budgets)?;
-    Ok(decided_by(problem, tried, budgets))
+    decided_by(problem, tried, budgets)
 }
 
-// What is decided by what tries find.
-fn decided_by(problem: Problem, tried: Tried, budgets: Budgets) -> Decided
+// What is decided by what tries find; want of memory where there was no room.
+fn decided_by(problem: Problem, tried: Tried, budgets: Budgets) -> Result<Decided, AllocError>
     requires tried { OfCases problem (λ c. IsTried (MayBeTold budgets.nodes budgets.steps c) c tried) }
-    ensures decided { OfCases problem (λ c. IsDecided Near budgets.nodes budgets.steps c result.decision) }
-    ensures shared { result.shared ≡ shared_in problem }
+    ensures decided { IfOk result (λ decided. OfCases problem (λ c. IsDecided Near budgets.nodes budgets.steps c decided.decision)) }
+    ensures shared { IfOk result (λ decided. decided.shared ≡ shared_in problem) }
 {
     let _ = budgets;
     match tried {
-        Tried::Safe => Decided {
+        Tried::Safe => Ok(Decided {
             decision: Decision::True,
             shared: taken_back(problem),
-        },
-        Tried::Broken { path } => shown(problem, path),
-        Tried::OutOfNodes { count } => Decided {
+        }),
+        Tried::Broken { path } => Ok(shown(problem, path)),
+        Tried::OutOfNodes { count } => Ok(Decided {
             decision: Decision::UnknownNodes { count },
             shared: taken_back(problem),
-        },
-        Tried::OutOfSteps => Decided {
+        }),
+        Tried::OutOfSteps => Ok(Decided {
             decision: Decision::UnknownSteps,
             shared: taken_back(problem),
-        },
+        }),
+        Tried::NoRoom => Err(AllocError),
     }
 }
 
@@ -206,7 +209,9 @@ fn over_declared(alloc: Global, problem: Problem, budgets: Budgets) -> Result<De
 {
     let bits = state_bits(&problem);
     let mut store = Store::new(alloc, 2 * u32::from(bits))?;
+    store.hold_at_most(room_for(budgets.nodes));
     let rel = relations(alloc, &problem, &mut store)?;
+    store.hold_at_most(u32::MAX);
     let outcome = search(alloc, &rel, &mut store, budgets.nodes, budgets.steps)?;
     let decided = tell(alloc, problem, &rel, &mut store, outcome, budgets)?;
     Ok(decided)

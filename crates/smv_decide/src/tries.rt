@@ -11,10 +11,10 @@ ghost use Rattle.smv_problem.specs.WellFormed.{IsProblem, OfCases};
 ghost use Rattle.smv_decide.specs.Decisions.{IsFound};
 ghost use Rattle.smv_decide.specs.Tries.{IsTried, is_out};
 
+use crate::room::relations_within;
 use bdd_store::Store;
 use smv_bit_order::near_order;
 use smv_core::Seq;
-use smv_encode::relations_over;
 use smv_orders::declared_order;
 use smv_problem::{AbsState, Budgets, Problem};
 use smv_readings::state_bits;
@@ -34,12 +34,14 @@ pub enum Tried {
     OutOfNodes { count: usize },
     /// The budget of images was used up.
     OutOfSteps,
+    /// Its functions have no room over this order.
+    NoRoom,
 }
 
 /// The first tries are made under this part of the budget of nodes.
 const PART: u32 = 16;
 
-/// Whether the budget of nodes was passed.
+/// Whether the budget of nodes was passed, or there was no room for the functions.
 pub(crate) fn is_out_of_nodes(tried: &Tried) -> bool
     ensures { result ≡ is_out tried.now }
 {
@@ -48,6 +50,7 @@ pub(crate) fn is_out_of_nodes(tried: &Tried) -> bool
         Tried::Broken { .. } => false,
         Tried::OutOfNodes { .. } => true,
         Tried::OutOfSteps => false,
+        Tried::NoRoom => true,
     }
 }
 
@@ -93,7 +96,9 @@ fn try_over(
 {
     let bits = state_bits(problem);
     let mut store = Store::new(alloc, 2 * u32::from(bits))?;
-    let rel = relations_over(alloc, problem, order, &mut store)?;
+    let Some(rel) = relations_within(alloc, problem, order, &mut store, budgets.nodes)? else {
+        return Ok(Tried::NoRoom);
+    };
     let outcome = search(alloc, &rel, &mut store, budgets.nodes, budgets.steps)?;
     let tried = found_over(alloc, problem, order, &rel, &mut store, outcome, budgets)?;
     Ok(tried)
@@ -125,7 +130,7 @@ fn try_near(
     Ok(tried)
 }
 
-// Tries over the declared order and then over the near one, under a budget of nodes: what is found first that is not that this is passed, or else the count over the declared order.
+// Tries over the declared order and then over the near one, under a budget of nodes: what is found first that is not that this is passed, or else what comes of the declared order.
 fn try_both(
     alloc: Global,
     problem: &Problem,
@@ -145,7 +150,7 @@ fn try_both(
     Ok(tried)
 }
 
-/// What may be told of a problem: what a try finds first that is not that its budget of nodes is passed; else the count over the declared order under all nodes. The declared order is tried
+/// What may be told of a problem: what a try finds first that is not that its budget of nodes is passed; else the count over the declared order under all nodes, or that there was no room. The declared order is tried
 /// before the near one, both under a part of the nodes and then under all.
 pub(crate) fn tries(alloc: Global, problem: &Problem, budgets: Budgets) -> Result<Tried, AllocError>
     requires well_formed { IsProblem problem.now }

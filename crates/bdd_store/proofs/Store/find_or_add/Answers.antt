@@ -1,4 +1,4 @@
-use Rattle.std.proofs.Common.{◌≡◌, ℕ, ◌+◌, ◌<◌, List, length, sym, ◌∙◌, ap, subst, arith}
+use Rattle.std.proofs.Common.{◌≡◌, ℕ, ◌+◌, ◌<◌, List, length, refl, sym, ◌∙◌, ap, subst, arith}
 use Rattle.std.proofs.lemmas.List.{get_or_default}
 use Rattle.bdd_store.specs.declared.chains.Node.{Node}
 use Rattle.bdd_store.specs.contracts.Store.{the_view}
@@ -10,6 +10,13 @@ use Rattle.bdd_store.proofs.Puts.{counted_few, counted_full}
 use Rattle.bdd_store.proofs.NodeLaws.{same_grows, flags_grows, same_held, same_live, child_gives, found_gives, IsPut, put_gives, absent_everywhere, held_is, on_err, le_more}
 use Rattle.bdd_store.proofs.ResultLaws.{known_extends}
 use Rattle.bdd_store.proofs.Store.find_or_add.Goals as goal
+
+-- as many are held as may be
+pub returns-then-self-clause-grows : goal.returns-then-self-clause-grows
+unfolding IsReduced
+returns-then-self-clause-grows c =
+    let d = c.args.self.now in
+    same_grows d d (subst IsReduced c.self.view_is c.self.invariant.reduced) refl refl refl
 
 -- both children are one
 pub returns-then-low-high-clause-grows : goal.returns-then-low-high-clause-grows
