@@ -18,12 +18,12 @@ ghost use Rattle.smv_decide.specs.Tries.{IsTried};
 ghost use Rattle.smv_decide.specs.Tasks.{IsTask, case_in};
 
 pub mod leaves;
-mod room;
+pub mod room;
 pub mod tasks;
 pub mod tries;
 
 use bdd_store::Store;
-use room::room_for;
+use room::relations_in_room;
 use smv_bits::Bits;
 use smv_core::Seq;
 use smv_core::flat::{Case, Element};
@@ -209,9 +209,7 @@ fn over_declared(alloc: Global, problem: Problem, budgets: Budgets) -> Result<De
 {
     let bits = state_bits(&problem);
     let mut store = Store::new(alloc, 2 * u32::from(bits))?;
-    store.hold_at_most(room_for(budgets.nodes));
-    let rel = relations(alloc, &problem, &mut store)?;
-    store.hold_at_most(u32::MAX);
+    let rel = relations_in_room(alloc, &problem, &mut store, budgets.nodes)?;
     let outcome = search(alloc, &rel, &mut store, budgets.nodes, budgets.steps)?;
     let decided = tell(alloc, problem, &rel, &mut store, outcome, budgets)?;
     Ok(decided)

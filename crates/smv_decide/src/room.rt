@@ -1,26 +1,45 @@
-// The functions of a problem are made in a store that is bounded meanwhile: nothing else bounds them, since they come before any search.
-ghost use Rattle.std.specs.Prelude.{◌≡◌, ◌*◌, IfOk, IfSome};
+//! The functions of a problem are made in a store that is bounded meanwhile: nothing else bounds them, since they come before any search.
+ghost use Rattle.std.specs.Prelude.{◌≡◌, ◌*◌, IfOk, IfSome, IsNone};
 ghost use Rattle.smv_rings.specs.Lists.{IsRel, lists_of};
 ghost use Rattle.law_obligations.specs.Readings.{state_bits as bits_of_case};
+ghost use Rattle.law_reports.specs.CaseLists.{IsListsOf};
 ghost use Rattle.law_arrangements.specs.Orders.{arranged, IsOrder};
 ghost use Rattle.law_arrangements.specs.ArrangedLists.{lists_over};
 ghost use Rattle.smv_problem.specs.WellFormed.{IsProblem, OfCases};
 
 use bdd_store::Store;
-use smv_encode::relations_over;
+use smv_encode::{relations, relations_over};
 use smv_problem::Problem;
 use smv_rings::Rel;
 use std::alloc::{AllocError, Global};
 
 /// The functions of a case may take so many nodes, whatever the budget is.
-const ROOM: u32 = 2_000_000;
+const ROOM: u32 = 1_000_000;
 
 /// And so many times the budget of nodes besides.
 const TIMES: u32 = 4;
 
-/// How many nodes a store may hold while the functions of a case are made that is decided under a budget of nodes.
-pub(crate) fn room_for(nodes: u32) -> u32 {
+// How many nodes a store may hold while the functions of a case are made that is decided under a budget of nodes.
+fn room_for(nodes: u32) -> u32 {
     nodes.saturating_mul(TIMES).saturating_add(ROOM)
+}
+
+/// The functions of a problem whose bits stand in the order of the declarations; want of memory where there is no room for them under this budget of nodes.
+pub fn relations_in_room(
+    alloc: Global,
+    problem: &Problem,
+    store: &mut Store,
+    nodes: u32,
+) -> Result<Rel, AllocError>
+    requires well_formed { IsProblem problem.now }
+    requires vars { OfCases problem.now (λ c. store.old.vars ≡ 2 * bits_of_case c) }
+    ensures rel { IfOk result (λ rel. IsRel store.new rel) }
+    ensures lists { IfOk result (λ rel. OfCases problem.entry.now (λ c. IsListsOf c (lists_of store.new rel))) }
+{
+    store.hold_at_most(room_for(nodes));
+    let rel = relations(alloc, problem, store)?;
+    store.hold_at_most(u32::MAX);
+    Ok(rel)
 }
 
 /// The functions of a problem over an order of its bits, or nothing where there is no room for them under this budget of nodes.

@@ -16,8 +16,9 @@ use smv_copies::copy_name;
 use smv_core::flat::Case;
 use smv_core::{Name, Seq};
 use smv_decide::leaves::verdict_at;
+use smv_decide::room::relations_in_room;
 use smv_decide::tasks::Task;
-use smv_decide::{problem_of, relations, tell};
+use smv_decide::{problem_of, tell};
 use smv_inductive::inductive;
 use smv_obligations::{Shared, taken_back};
 use smv_problem::{Budgets, Problem, Verdict};
@@ -176,7 +177,7 @@ fn try_problem(
 {
     let bits = state_bits(&problem);
     let mut store = Store::new(alloc, 2 * u32::from(bits))?;
-    let rel = relations(alloc, &problem, &mut store)?;
+    let rel = relations_in_room(alloc, &problem, &mut store, budgets.nodes)?;
     let kept = kept_of_old(alloc, &rel, &mut store, old)?;
     match kept {
         Some(set) => Ok(TriedCase {

@@ -6,10 +6,10 @@ use Rattle.smv_kept_cases.proofs.cases.try_problem.Goals as goal
 
 pub returns-in-Some-clause-tried : goal.returns-in-Some-clause-tried
 returns-in-Some-clause-tried c = λ case e well.
-    tried_old c.args.budgets.nodes c.args.budgets.steps c.relations.new.store c.in_ok-rel.rel c.args.place case c.in_ok-rel.ensures.rel (c.in_ok-rel.ensures.lists case e well) (option_copied c.args.old) c.in_ok-kept.kept c.in-Some.set c.in-Some.is c.in_ok-kept.ensures.some
+    tried_old c.args.budgets.nodes c.args.budgets.steps c.relations_in_room.new.store c.in_ok-rel.rel c.args.place case c.in_ok-rel.ensures.rel (c.in_ok-rel.ensures.lists case e well) (option_copied c.args.old) c.in_ok-kept.kept c.in-Some.set c.in-Some.is c.in_ok-kept.ensures.some
 
 pub search_problem-requires-clause-rel : goal.search_problem-requires-clause-rel
-search_problem-requires-clause-rel c = rel_kept c.relations.new.store c.kept_of_old.new.store c.in_ok-rel.rel c.in_ok-rel.ensures.rel c.kept_of_old.ensures.keeps
+search_problem-requires-clause-rel c = rel_kept c.relations_in_room.new.store c.kept_of_old.new.store c.in_ok-rel.rel c.in_ok-rel.ensures.rel c.kept_of_old.ensures.keeps
 
 pub search_problem-requires-clause-lists : goal.search_problem-requires-clause-lists
-search_problem-requires-clause-lists c = λ case e well. lists_kept c.relations.new.store c.kept_of_old.new.store c.in_ok-rel.rel c.in_ok-rel.ensures.rel c.kept_of_old.ensures.keeps ∙ c.in_ok-rel.ensures.lists case e well
+search_problem-requires-clause-lists c = λ case e well. lists_kept c.relations_in_room.new.store c.kept_of_old.new.store c.in_ok-rel.rel c.in_ok-rel.ensures.rel c.kept_of_old.ensures.keeps ∙ c.in_ok-rel.ensures.lists case e well
