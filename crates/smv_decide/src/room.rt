@@ -14,7 +14,7 @@ use smv_rings::Rel;
 use std::alloc::{AllocError, Global};
 
 /// The functions of a case may take so many nodes, whatever the budget is.
-const ROOM: u32 = 1_000_000;
+const ROOM: u32 = 500_000;
 
 /// And so many times the budget of nodes besides.
 const TIMES: u32 = 4;
