@@ -1,0 +1,12 @@
+pub mod Lists
+pub mod Within
+pub mod SameTrees
+pub mod SameStatements
+pub mod PlacedStatements
+pub mod PlacedFamilies
+pub mod PlacedLayer
+pub mod Joined
+pub mod PlacedClaims
+pub mod SameClaims
+pub mod Meant
+pub mod Units

@@ -1,0 +1,3 @@
+pub mod Behind
+pub mod Placed
+pub mod Trees

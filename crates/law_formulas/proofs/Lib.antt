@@ -1,0 +1,4 @@
+pub mod Watching
+pub mod Less
+pub mod Reading
+pub mod Examples
