@@ -122,7 +122,7 @@ has-definition vars (weak p q) (w ∷ []) stage has m (zero, l, e) = (And (Or (r
 has-definition vars (weak p q) (w ∷ []) stage has m (suc k, l, e) = absurd (omega (arith, l))
 has-definition vars (weak p q) (w ∷ n ∷ names) stage has m c = absurd has
 
-definitions-fresh : (P : Name → Type 0) (vars : List Name) (f : Formula) (names : List Name) (stage : Stage) → AllByRecursion P names → AllByRecursion (λ entry. P entry.0) (definitions vars names stage f)
+pub definitions-fresh : (P : Name → Type 0) (vars : List Name) (f : Formula) (names : List Name) (stage : Stage) → AllByRecursion P names → AllByRecursion (λ entry. P entry.0) (definitions vars names stage f)
 definitions-fresh P vars (now e) names stage all = tt
 definitions-fresh P vars (next at f) [] stage all = tt
 definitions-fresh P vars (next at f) (m ∷ names) stage all = (all.0, definitions-fresh P vars f names (behind m) all.1)

@@ -88,7 +88,7 @@ find-among P test (y ∷ ys) x all f = by_test (test y) f (λ k. find-among P te
 -- ---- paths
 
 module _ (fresh : List Name) where
-  behind-instance : (instance p : Path) → IsOld fresh p → is_fresh fresh (instance ++ p) ≡ false
+  pub behind-instance : (instance p : Path) → IsOld fresh p → is_fresh fresh (instance ++ p) ≡ false
   behind-instance [] [] h = absurd h
   behind-instance [] (name ∷ more) h = h
   behind-instance (n ∷ []) [] h = absurd h

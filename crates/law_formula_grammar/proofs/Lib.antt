@@ -1,0 +1,14 @@
+pub mod Formulas
+pub mod Declared
+pub mod Items
+pub mod Bodies
+pub mod Texts
+pub mod Whole
+pub mod Only
+pub mod Answers
+pub mod Among
+pub mod Numbers
+pub mod Same
+pub mod Back
+pub mod Computing
+pub mod Examples

@@ -1,0 +1,5 @@
+//! Readers of texts with formulas.
+#![tactic(auto)]
+
+pub mod laws;
+pub mod worked;

@@ -1,0 +1,5 @@
+pub mod FreeNames
+pub mod Plans
+pub mod OldText
+pub mod Alone
+pub mod Whole
