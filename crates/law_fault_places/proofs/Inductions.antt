@@ -1,33 +1,27 @@
 -- An offset of a strengthened text is carried back into the text that was read, and what a refusal of an induction tells.
-use Rattle.std.proofs.Common.{◌≡◌, ◌≤◌, ◌+◌, ◌-◌, ℕ, List, [], ◌∷◌, ◌++◌, length, take, drop, filter, Bool, true, false, if◌then◌else◌, nat_lt, Option, Some, None, Ok, refl, sym, ap, subst, ◌∙◌, ◌⊎◌, inl, inr, true≢false, arith}
+use Rattle.std.proofs.Common.{◌≡◌, ◌≤◌, ◌+◌, ◌-◌, ℕ, List, [], ◌∷◌, ◌++◌, length, filter, Bool, true, false, if◌then◌else◌, nat_lt, Option, Some, None, refl, sym, ap, subst, ◌∙◌, ◌⊎◌, inl, inr, true≢false, arith}
 use Rattle.std.specs.List.{AllByRecursion, flat_map, list_any}
 use Rattle.std.specs.Option.{option_map}
 use Rattle.std.specs.Str.{bytes_eq}
-use Rattle.std.proofs.lemmas.List.{length-append, length-take-le, length-drop}
 use Rattle.law_lists.proofs.Each.{each_append, each_filter, each_flat_map}
 use Rattle.law_lists.proofs.Numbers.{nat_lt-is}
 use Rattle.law_lists.proofs.Options.{some_is}
 use Rattle.smv_core.specs.Values.{Name}
 use Rattle.smv_core.specs.FlatOrder.{main}
-use Rattle.smv_core.specs.Notation.{Tokens}
 use Rattle.smv_core.specs.declared.tree.Word.{Word}
 use Rattle.smv_core.specs.declared.tree.TypeExpr.{TypeExpr}
 use Rattle.smv_core.specs.declared.tree.Item.{Item, Declare, Instance, Layer, Forall', Block', Claim, Split, Using, Act, Row_of-Item, end_of-Item, more_of-Item}
 use Rattle.smv_core.specs.declared.tree.Top.{Top}
 use Rattle.smv_core.specs.declared.tree.Top.TheVariants.{SetType, Alias, Module}
 use Rattle.smv_core.specs.declared.tree.Text.{Text}
-use Rattle.smv_lex.specs.Lexing.{Lexed, lexed}
 use Rattle.smv_bits.specs.declared.Bits.TheVariants.{Declared}
 use Rattle.smv_problem.specs.declared.report.Budgets.{Budgets}
 use Rattle.smv_report.specs.Lines.{fault_text}
 use Rattle.smv_command.specs.declared.commands.Command.TheVariants.{Prove}
 use Rattle.smv_command.specs.declared.exit.Status.{Status}
-use Rattle.law_lexed_parts.specs.Parts.{begin_of, end_of_all}
-use Rattle.law_exchanged.specs.Claims.{body_tokens}
-use Rattle.law_strengthened_claims.specs.Renaming.{between, renamed_bytes}
-use Rattle.law_strengthened_claims.specs.Replacement.{replacement}
-use Rattle.law_strengthened_texts.specs.Stronger.{Found, Stronger, IsStrengthened, all_claims_in, back, claims_in, fresh_name, if_only, if_parameter, induction, innermost, main_claims, ordset_named, put}
+use Rattle.law_strengthened_texts.specs.Stronger.{Found, Stronger, IsStrengthened, all_claims_in, back, claims_in, if_only, if_parameter, induction, innermost, main_claims, ordset_named}
 use Rattle.law_strengthened_texts.specs.Laws.{StrongerIsPlaced}
+use Rattle.law_strengthened_texts.proofs.Lengths.{lengths}
 use Rattle.law_induct_answers.specs.Dues.{IsInductDue, inducted, refused_text, no_induction, refused_stronger}
 use Rattle.law_fault_places.specs.TreePlaces.{ItemIsWithin, ItemsAreWithin, TopIsWithin, TextIsWithin}
 use Rattle.law_fault_places.specs.PassFaults.{IsFaultWithin}
@@ -85,36 +79,6 @@ module _ (n : ℕ) where
   found-within : (x : Text) (name var : Name) (c : Found) (set : Name) → TextIsWithin n x → induction x.tops name var ≡ Some (c, set) → c.word.at ≤ n
   found-within x name var c set h e =
       only-within x.tops var (filter (λ (c : Found). bytes_eq c.word.name name) (main_claims x.tops)) c set (each_filter Placed (λ (c : Found). bytes_eq c.word.name name) (main_claims x.tops) (tops-within x.tops h)) e
-
--- ---- how long a strengthened text is
-
-one-lexed : (l : Lexed) (ts us : Tokens) → l ≡ Ok ts → l ≡ Ok us → ts ≡ us
-one-lexed l ts us a b = cc (a, b)
-
-put-lengths : (text before bytes after new : List ℕ) (from to at : ℕ) → text ≡ before ++ (bytes ++ after) → from ≡ length before → to ≡ length before + length bytes →
-    (from + length new ≤ length (put text from to new at).text) × (length (put text from to new at).text + (to - from) ≡ length text + length new)
-put-lengths text before bytes after new from to at split e k =
-    let whole : length text ≡ length before + (length bytes + length after) = ap length split ∙ length-append before (bytes ++ after) ∙ ap (λ n. length before + n) (length-append bytes after) in
-    let front : length (take from text) ≡ from = length-take-le from text (omega (arith, whole, e)) in
-    let back : length (drop to text) ≡ length text - to = length-drop to text in
-    let all : length (take from text ++ (new ++ drop to text)) ≡ length (take from text) + (length new + length (drop to text)) =
-    length-append (take from text) (new ++ drop to text) ∙ ap (λ n. length (take from text) + n) (length-append new (drop to text)) in
-    (omega (arith, all, front), omega (arith, all, front, back, whole, e, k))
-
-lengths : StrongerIsPlaced → (text : List ℕ) (name var : Name) (s : Stronger) → IsStrengthened text name var s → (s.from + s.new ≤ length s.text) × (length s.text + s.old ≡ length text + s.new)
-lengths law text name var s h =
-    let ts = h.0 in
-    let at = h.2.word.at in
-    let w = law text name var ts h.1 h.2 h.3 h.4 h.5 h.6 in
-    let p = w.0 in
-    let tokens : p.all ≡ ts = one-lexed (lexed text) p.all ts p.all_read h.4 in
-    let body : body_tokens p.word.at p.all ≡ body_tokens at ts = ap (λ k. body_tokens k p.all) w.1 ∙ ap (body_tokens at) tokens in
-    let starts : begin_of (body_tokens at ts) ≡ length p.before = ap begin_of (sym body) ∙ p.starts in
-    let ends : end_of_all text (body_tokens at ts) ≡ length p.before + length p.bytes = ap (end_of_all text) (sym body) ∙ p.ends in
-    let from = begin_of (body_tokens at ts) in
-    let to = end_of_all text (body_tokens at ts) in
-    let new = replacement var (fresh_name ts) h.3 (renamed_bytes text var (fresh_name ts) from to false (body_tokens at ts)) (between text from to) in
-    subst (λ (z : Stronger). (z.from + z.new ≤ length z.text) × (length z.text + z.old ≡ length text + z.new)) (sym h.7) (put-lengths text p.before p.bytes p.after new from to at p.split starts ends)
 
 -- ---- back
 

@@ -4,13 +4,11 @@ use Rattle.smv_core.specs.Values.{Name}
 use Rattle.smv_core.specs.declared.tree.Text.{Text}
 use Rattle.smv_core.specs.Notation.{Tokens}
 use Rattle.smv_core.specs.Spelling.{Spells}
-use Rattle.smv_lex.specs.Lexing.{Lexed, lexed}
+use Rattle.smv_lex.specs.Lexing.{lexed}
 use Rattle.law_grammar.proofs.Only.{one-text}
 use Rattle.law_strengthened_texts.specs.Stronger.{Found, induction, strengthened, levels}
+use Rattle.law_strengthened_texts.proofs.Lengths.{one-lexed}
 use Rattle.law_inductive_texts.specs.Laws.{OneStronger, NotBothStronger}
-
-one-lexed : (l : Lexed) (ts us : Tokens) → l ≡ Ok ts → l ≡ Ok us → ts ≡ us
-one-lexed l ts us a b = cc (a, b)
 
 -- a text has one list of tokens, and these one tree
 one-tree : (text : List ℕ) (ts us : Tokens) (x y : Text) → lexed text ≡ Ok ts → lexed text ≡ Ok us → Spells levels ts x → Spells levels us y → (ts ≡ us) × (x ≡ y)

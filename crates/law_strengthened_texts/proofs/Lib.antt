@@ -1,3 +1,4 @@
 pub mod Counting
 pub mod Placing
 pub mod Fresh
+pub mod Lengths

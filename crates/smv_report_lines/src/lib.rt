@@ -1,7 +1,7 @@
 //! The lines of a report: of each unit what is decided of it, with the case and the path that show it, and how many units are true.
 //!
 //! For the top call. It meets `law_reports`' `specs/Lines`, byte by byte; `specs/Generated` has the two lines of a generated design. `values` writes classes, values and elements, `paths` the lines that stand
-//! below a unit's. The two parts of a unit's lines are written for a unit at given sizes too, the line of a case, an element and a number for `smv_look_lines`. A report that no call gives is written too: a number that leads nowhere stands for nothing.
+//! below a unit's. The two parts of a unit's lines are written for a unit at given sizes too, the line of a case, an element and a number for `smv_look_lines`, a class and a value for `smv_look_reports`. A report that no call gives is written too: a number that leads nowhere stands for nothing.
 #![tactic(auto)]
 
 ghost use Rattle.std.specs.Prelude.{◌≡◌, ◌++◌, IfOk, OnOk};
@@ -17,7 +17,7 @@ use paths::push_times;
 use smv_core::flat::{Design, Param};
 use smv_problem::{Report, UnitResult, Verdict};
 use std::alloc::{AllocError, Global};
-pub use values::{push_element, push_number};
+pub use values::{push_class, push_element, push_number, push_value};
 
 /// The lines of a report: those of each unit in order, and `proved K of M`.
 pub fn lines(alloc: Global, report: &Report) -> Result<Vec<u8>, AllocError>

@@ -17,8 +17,8 @@ pub fn push_number(out: &mut Vec<u8>, number: usize) -> Result<(), AllocError>
     out.extend_from_slice(buffer.format(number).as_bytes())
 }
 
-// Writes a class of a type.
-pub(crate) fn push_class(
+/// Writes a class of a type, as it is spelled.
+pub fn push_class(
     out: &mut Vec<u8>,
     design: &Design,
     over: Simple,
@@ -67,8 +67,8 @@ fn is_ordered(design: &Design, over: Simple) -> bool
     }
 }
 
-// Writes a value of a type.
-fn push_value(
+/// Writes a value of a type, as it is spelled; Undefined is nothing.
+pub fn push_value(
     out: &mut Vec<u8>,
     design: &Design,
     over: Simple,
