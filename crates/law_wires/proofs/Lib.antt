@@ -3,3 +3,4 @@ pub mod Put
 pub mod Tried
 pub mod Allows
 pub mod Unread
+pub mod Wired

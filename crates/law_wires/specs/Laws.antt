@@ -5,11 +5,12 @@ use Rattle.law_obligations.specs.Places.{Place}
 use Rattle.law_obligations.specs.Sets.{Has}
 use Rattle.law_obligations.specs.May.{AbsState, Kept}
 use Rattle.law_obligations.specs.Obligations.{Demanded}
-use Rattle.law_obligations.specs.Cones.{AbsElement}
+use Rattle.law_obligations.specs.Cones.{AbsElement, same_element}
 use Rattle.law_obligations.specs.Bits.{Bits}
-use Rattle.law_obligations.specs.Readings.{PosedCase, IsCase, values_of, reading}
+use Rattle.law_obligations.specs.Readings.{PosedCase, IsCase, values_of, state_bits, reading}
 use Rattle.law_reports.specs.CaseLists.{those_of}
-use Rattle.law_arrangements.specs.Arrangements.{put, AgreeBeside, allowed, AreWorkedOut, CanGoOn, AreUnread, view}
+use Rattle.law_arrangements.specs.Arrangements.{put, AgreeBeside, EachWith, allowed, AreWorkedOut, CanGoOn, AreUnread, IsArrangement, view}
+use Rattle.law_arrangements.specs.Orders.{IsOrder}
 use Rattle.law_arrangements.specs.Laws.{gathered}
 use Rattle.law_obligations.specs.Pictures.{KeepsNamed}
 use Rattle.law_reads.specs.Reading.{HaveValues, read_now}
@@ -36,6 +37,15 @@ abbrev pub TriedHaveValues : Type 0
 TriedHaveValues = (c : PosedCase) → IsCase c → KeepsNamed c.problem.world c.problem.kept → HaveValues c.problem.world →
     (order : List ℕ) (done : List AbsElement) (x : AbsElement) (left : List AbsElement) → IsTry c order done x left → ReadsDone c x left → (other : Kept) → KeepsBeside c (x ∷ left) other →
     (s : Bits) (v : Place) → filter (meets_with c other (view c (trying order done (x ∷ left)) s) x) (values_of c.problem.world x) ≡ v ∷ [] → view c (trying order (done ++ x ∷ []) left) s ≡ put x v (view c (trying order done (x ∷ left)) s)
+
+-- elements that are determined are so too where one that is left gets bits after all
+abbrev pub LeftMayGo : Type 0
+LeftMayGo = (c : PosedCase) (done : List AbsElement) (x : AbsElement) (left : List AbsElement) → AreDetermined c done (x ∷ left) → AreDetermined c done left
+
+-- elements of the case, each once, that are determined with none left are an arrangement, with the bits of all elements in whatever order
+abbrev pub WiresAreArrangements : Type 0
+WiresAreArrangements = (c : PosedCase) (order : List ℕ) → IsOrder (state_bits c) order → (done : List AbsElement) → ((y : AbsElement) → Has done y → Has c.elements y) →
+    EachWith (λ behind y. list_any (same_element y) behind ≡ false) done → AreDetermined c done [] → IsArrangement c (trying order done [])
 
 -- nothing depends on elements that nothing reads
 abbrev pub NotReadAreUnread : Type 0

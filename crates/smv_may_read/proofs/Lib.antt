@@ -1,0 +1,4 @@
+pub mod LeftLaws
+pub mod MentionLaws
+pub mod PartLaws
+pub mod Others
