@@ -15,7 +15,7 @@ It ends with status 1 where something differs. The pages also run make, sed, seq
                       a line `@@` parts one change from the next. The lines with blanks and `-` of a change stand together in OLD, at one place.
     ```console        lines `$ COMMAND`, each with what it writes behind it. The folder has the files of the page, those that earlier commands wrote, `examples` and `tools`.
     ```marked         texts of one line, each with a line below it that has `^ fault N` under the place, and perhaps more words: what `prove` answers.
-                      They stand in no table of tests.
+                      Before it `^ first` may stand under the other place, which `smv_look explain` tells. They stand in no table of tests of the prover.
 
 Each examples/NAME.smv has an examples/NAME.answer beside it: exactly what `deodarwrench prove < examples/NAME.smv` writes.
 The exit status of an answer is the one that README.md states for it, and for `smv_look` docs/LOOK.md; no command's block repeats it. A command with `sh` or `make` in it ends with 0 where all is true.
@@ -40,14 +40,18 @@ MISTAKES = TOP / "crates/smv_look_tests/src/mistakes.rt"
 FAULTS = "docs/FAULTS.md"
 # A fault's number and its rule, in a heading.
 RULE = re.compile(r"^### Fault (\d+): (.*)$", re.M)
+# The number of the fault below which stands what could stand at its place.
+UNEXPECTED = "5"
 # The answer that a text with a fault has.
 FAULT = re.compile(r"fault (\d+) at line (\d+) column (\d+)\n")
 FENCED = re.compile(r"^```(smv|make|sh|diff|console|marked)(?: (\S+))?(?: (\S+))?\n(.*?)^```$", re.M | re.S)
 FENCES = re.compile(r"^```(?:smv|make|sh|diff|console|marked)", re.M)
 # The programs beside the prover, in the order in which they are given.
 BESIDE = ["smv_wave", "smv_look"]
-# The line below a text that says where it has which fault.
-MARK = re.compile(r" *\^ fault (\d+)\b.*")
+# The line below a text that says where it has which fault, and where the other place of the fault is.
+MARK = re.compile(r"(?: *\^ first\b)? *\^ fault (\d+)\b.*")
+# What `smv_look explain` says of the other place of a fault of this number.
+OTHERS = {"8": "declared first here", "15": "the other assignment is here", "16": "the other assignment is here", "27": "chosen first here"}
 # About how many bytes of rows a test has at most, if it has more than one row.
 PART = 9_200
 # Commands that a test can give the program as words and a text: that of a file, one that is written out, so many blanks.
@@ -120,16 +124,27 @@ def changed(text, block):
     return text
 
 
+def texts_and_marks(block):
+    """Returns the texts of a `marked` block, each with the line below it."""
+    lines = [line for line in block.splitlines() if line]
+    return list(zip(lines[::2], lines[1::2], strict=True))
+
+
 def marked(block):
     """Returns the commands that give `prove` the texts of a `marked` block, with their answers."""
-    lines = [line for line in block.splitlines() if line]
     commands = []
-    for text, below in zip(lines[::2], lines[1::2], strict=True):
+    for text, below in texts_and_marks(block):
         mark = MARK.fullmatch(below)
         if not mark or set(text) & set('"$`\\'):
             raise ValueError(f"no mark, or a sign of the shell:\n{text}\n{below}")
-        commands.append((f'echo "{text}" | deodarwrench prove', f"fault {mark[1]} at line 1 column {below.index('^') + 1}\n"))
+        commands.append((f'echo "{text}" | deodarwrench prove', f"fault {mark[1]} at line 1 column {below.index('^ fault') + 1}\n"))
     return commands
+
+
+def firsts(page):
+    """Returns the column of the other place of the fault of each text of the page's `marked` blocks that shows one."""
+    blocks = [block for kind, _, _, block in FENCED.findall((TOP / page).read_text()) if kind == "marked"]
+    return {text + "\n": below.index("^") + 1 for block in blocks for text, below in texts_and_marks(block) if "^ first" in below}
 
 
 def read_page(page):
@@ -165,19 +180,32 @@ def everything():
     return [(page, *read_page(page)) for page in PAGES] + [("examples", {}, example_commands())]
 
 
+def pointed(text, line, column, words):
+    """Returns a line of a text, and below it a mark under the column with these words."""
+    there = text.split("\n")[line - 1]
+    mark = "".join("\t" if sign == "\t" else " " for sign in there[: column - 1])
+    return f"  | {there}\n  | {mark}^ {words}\n"
+
+
 def mistakes():
-    """Returns the texts of the page of faults, each with what `smv_look explain` answers: the line of `prove`, the line of the text, and a mark below it with the rule."""
+    """Returns the texts of the page of faults, each with what `smv_look explain` answers: the line of `prove`, the line of the text and a mark below it with the rule, and the same of the
+    other place of the fault; and whether that is all, or what could stand there follows. Texts of which the page shows that itself are left out."""
     rules = dict(RULE.findall((TOP / FAULTS).read_text()))
     files, commands = read_page(FAULTS)
+    others = firsts(FAULTS)
+    shown_whole = {files[shown[2]] for command, _ in commands if (shown := LOOK.fullmatch(command)) and shown[1] == "explain"}
     found = []
     for command, answer in commands:
         fault, shown = FAULT.fullmatch(answer), MISTAKE.fullmatch(command)
         if fault and shown:
             text = files[shown[1]] if shown[1] else shown[2] + "\n"
             number, line, column = fault.groups()
-            there = text.split("\n")[int(line) - 1]
-            mark = "".join("\t" if sign == "\t" else " " for sign in there[: int(column) - 1]) + "^ " + rules[number]
-            found.append((text, f"{answer}  | {there}\n  | {mark}\n"))
+            lines = answer + pointed(text, int(line), int(column), rules[number])
+            if text in shown_whole:
+                continue
+            if number in OTHERS:
+                lines += pointed(text, 1, others[text], f"{OTHERS[number]}, at line 1 column {others[text]}")
+            found.append((text, lines, number != UNEXPECTED))
     return found
 
 
@@ -189,8 +217,9 @@ def run_looks(look):
         return it.stdout, it.returncode
 
     wrong = []
-    for text, answer in mistakes():
-        if ran(["explain"], text) != (answer, 3):
+    for text, answer, is_all in mistakes():
+        told, code = ran(["explain"], text)
+        if code != 3 or not (told == answer if is_all else told.startswith(f"{answer}  | here may stand: ")):
             wrong.append(f"explain of\n{text}")
     for example in sorted((TOP / "examples").glob("*.smv")):
         text = example.read_text()
@@ -404,7 +433,7 @@ def looks():
 
 def explained():
     """Returns the module of tests of the mistakes that are explained: its file and its lines."""
-    rows = [row(['"explain"', quoted(text), "3", quoted(answer)]) for text, answer in mistakes()]
+    rows = [row(['"explain"', quoted(text), "3", quoted(answer)]) for text, answer, is_all in mistakes() if is_all]
     lines = [
         f"//! The texts of `{FAULTS}`, which have a fault each, with what `explain` says of it. Written by `tools/pages.py --tests`.",
         "",

@@ -1,6 +1,6 @@
 -- The target of an element that would have a value, and the values that are sure.
 use Rattle.std.proofs.Common.{◌≡◌, ℕ, zero, suc, ◌+◌, ◌<◌, ◌≤◌, List, [], ◌∷◌, ◌++◌, map, length, drop, get_or, Bool, true, false, not, ◌&&◌, ◌||◌, if◌then◌else◌, refl, sym, ap, subst, ◌∙◌, inl, inr, Option, Some, None, arith}
-use Rattle.std.specs.List.{filter, slice_get, list_any}
+use Rattle.std.specs.List.{filter, slice_get}
 use Rattle.law_lists.proofs.Options.{some_is}
 use Rattle.smv_core.specs.FlatMeaning.{Numbered}
 use Rattle.smv_core.specs.declared.flat.Def.{Def}
@@ -10,22 +10,21 @@ use Rattle.smv_core.specs.declared.flat.DefBody.{DefBody}
 use Rattle.smv_core.specs.declared.flat.FlatExpr.{FlatExpr}
 use Rattle.smv_core.specs.declared.flat.Simple.{Simple}
 use Rattle.law_obligations.specs.Sets.{Has, first, later}
-use Rattle.law_obligations.specs.Places.{Place, World, same_place, is_among, AbsOutcome}
+use Rattle.law_obligations.specs.Places.{Place, World, same_place, is_among}
 use Rattle.law_obligations.specs.May.{AbsState, Kept}
 use Rattle.law_obligations.specs.Demands.{must_be, places_of_family}
 use Rattle.law_obligations.specs.Obligations.{AbstractProblem as Case, defined}
 use Rattle.law_obligations.specs.Soundness.{over_of}
-use Rattle.law_obligations.proofs.Members.{Has-from_map, Has-uncons}
 use Rattle.law_obligations.proofs.Same.{same_place-is, is_among-Has}
 use Rattle.law_designs.specs.FlatKinds.{FlatKind}
 use Rattle.law_obligations.specs.Readings as readings
 use Rattle.smv_spots.specs.declared.spots.Spot.{Spot}
-use Rattle.smv_spots.specs.Spots.{place_in, outcome_in}
+use Rattle.smv_spots.specs.Spots.{place_in}
 use Rattle.smv_problem.specs.declared.problem.AbsValue.{AbsValue}
 use Rattle.smv_problem.specs.declared.problem.Demand.{Demand}
 use Rattle.smv_problem.specs.declared.problem.Demand.TheVariants.{Defined, Holds}
 use Rattle.smv_problem.specs.declared.problem.Problem.{Problem}
-use Rattle.smv_problem.specs.Written.{written, written_demand, written_place, written_outcome, kind_in}
+use Rattle.smv_problem.specs.Written.{written, written_demand, written_place, kind_in}
 use Rattle.smv_problem.specs.WellFormed.{IsWellFormed, IsFit, OfCases}
 use Rattle.smv_problem_spots.specs.Worlds.{IsWorldOf}
 use Rattle.law_worlds.proofs.Worlds.{world_of_case}
@@ -42,9 +41,9 @@ use Rattle.smv_targets.specs.declared.targets.Target.{Target}
 use Rattle.smv_targets.specs.Targets.{IsTarget, IsTargetMade, AreAtMade, at_place}
 use Rattle.smv_walks.specs.declared.walks.Way.TheVariants.{Must}
 use Rattle.smv_eval.specs.States.{plainly}
-use Rattle.smv_eval.specs.Answers.{IsSetOf, list_of, list_for, with_offers}
+use Rattle.smv_eval.specs.Answers.{list_of, list_for, offered_values, value_at}
 use Rattle.smv_eval.proofs.Narrow.{IsNarrow, type_narrow}
-use Rattle.smv_eval.proofs.ValueLaws.{kind_list, set_answered}
+use Rattle.smv_eval.proofs.ValueLaws.{kind_list, value_written}
 use Rattle.smv_walks.specs.Demands.{IsDemand, AreOldMade}
 use Rattle.smv_walks.specs.Demands as demands
 use Rattle.smv_walks.specs.Given.{IsGivenAt, IsTargets, IsWritten, aim_at}
@@ -52,7 +51,7 @@ use Rattle.smv_walks.proofs.DemandLaws.{written_inner}
 use Rattle.smv_eval.specs.Held.{steady, AreReadBy, IsKept}
 use Rattle.smv_eval.proofs.HeldLaws.{steady_at}
 use Rattle.smv_eval.proofs.StateHeld.{fit_kept}
-use Rattle.smv_eval.specs.Sure.{every_of, is_sure, sure_places, sure_values, at_value, IsTargetAt, OfElement, sure_offer}
+use Rattle.smv_eval.specs.Sure.{every_of, is_sure, sure_values, at_value, IsTargetAt, OfElement, sure_offer}
 
 -- what is offered of a place
 abbrev offer_at : Spot → Bool → Offer Bool
@@ -200,27 +199,22 @@ module _ (problem : Problem) (old : Option (List (Cell Bool))) (cells : List (Ce
 
 -- ---- the values of a case
 
-module _ (n : Numbered) (f : Place → Bool) (q : AbsOutcome → Bool) where
-  -- what is offered of places that pass a test is what passes
-  offered : (spots : List Spot) → list_any (λ (o : Offer Bool). o.when && q (outcome_in n o.outcome)) (map (λ (spot : Spot). offer_at spot (f (place_in n spot))) spots) ≡ list_any q (map Some (filter f (map (place_in n) spots)))
-  offered [] = refl
-  offered (spot ∷ spots) = at (f (place_in n spot)) (offered spots)
+module _ (p : Problem) (w : World) (is : IsWorldOf p w) (kind : FlatKind) (f : Place → Bool) where
+  -- what is offered of places that pass a test is what passes, as it is written
+  offered : (spots : List Spot) → ((q : Place) → Has (map (place_in w.classes) spots) q → IsNarrow (Some q)) →
+      offered_values p (list_of kind) (map (λ (spot : Spot). offer_at spot (f (place_in w.classes spot))) spots) ≡ map (written_place w.classes kind) (filter f (map (place_in w.classes) spots))
+  offered [] narrow = refl
+  offered (spot ∷ spots) narrow = at (f (place_in w.classes spot)) (offered spots (λ q h. narrow q (later h)))
     where
-      at : (b : Bool) {more : Bool} → more ≡ list_any q (map Some (filter f (map (place_in n) spots))) → ((b && q (Some (place_in n spot))) || more) ≡ list_any q (map Some (if b then place_in n spot ∷ filter f (map (place_in n) spots) else filter f (map (place_in n) spots)))
-      at true e = ap (λ m. q (Some (place_in n spot)) || m) e
+      written : value_at p (list_of kind) (Some spot) ≡ written_place w.classes kind (place_in w.classes spot)
+      written = value_written p w is kind (Some spot) (narrow (place_in w.classes spot) first)
+
+      at : (b : Bool) → offered_values p (list_of kind) (map (λ (x : Spot). offer_at x (f (place_in w.classes x))) spots) ≡ map (written_place w.classes kind) (filter f (map (place_in w.classes) spots)) →
+          map (λ (o : Offer Bool). value_at p (list_of kind) o.outcome)
+          (if b then offer_at spot b ∷ filter (λ (o : Offer Bool). o.when) (map (λ (x : Spot). offer_at x (f (place_in w.classes x))) spots) else filter (λ (o : Offer Bool). o.when) (map (λ (x : Spot). offer_at x (f (place_in w.classes x))) spots))
+          ≡ map (written_place w.classes kind) (if b then place_in w.classes spot ∷ filter f (map (place_in w.classes) spots) else filter f (map (place_in w.classes) spots))
+      at true e = λ i. written i ∷ e i
       at false e = e
-
-from_filter : (f : Place → Bool) (ps : List Place) (p : Place) → Has (filter f ps) p → Has ps p
-from_filter f [] p h = h
-from_filter f (x ∷ ps) p h = at (f x) h (from_filter f ps p)
-  where
-    at : (b : Bool) → Has (if b then x ∷ filter f ps else filter f ps) p → (Has (filter f ps) p → Has ps p) → Has (x ∷ ps) p
-    at true h others = elim (Has-uncons h) [ inl e ↦ subst (Has (x ∷ ps)) (sym e) first | inr k ↦ later (others k) ]
-    at false h others = later (others h)
-
-as_outcomes : (n : Numbered) (k : FlatKind) (ps : List Place) → map (written_outcome n k) (map Some ps) ≡ map (written_place n k) ps
-as_outcomes n k [] = refl
-as_outcomes n k (p ∷ ps) = ap (λ vs. written_place n k p ∷ vs) (as_outcomes n k ps)
 
 list_is : (o : Option Family) → list_for o ≡ list_of (kind_in o)
 list_is None = refl
@@ -235,8 +229,8 @@ unfolding written
 families_are c p is = ap (λ (q : Problem). q.families) is
 
 pub values_said : (problem : Problem) (old : Option (List (Cell Bool))) (cells : List (Cell Bool)) (element : Element) (init next comb : DefBody) (every sliced : List Spot) (offers given : List (Offer Bool)) (list : Option ℕ) (values : List AbsValue) →
-    ArePlaces problem element.family every → sliced ≡ every → AreSure problem old cells element init next comb sliced offers → given ≡ offers → list ≡ list_for (slice_get problem.families element.family) → values ≡ with_offers problem list [] given →
-    OfCases problem (λ c. (before : Option AbsState) (now : AbsState) → AreReadBy problem old cells c.problem before now → (def : Def) (indexes : List Place) → IsDemand c.problem (defined def indexes) → IsWritten element init next comb c.problem def indexes (λ a. now) → IsSetOf (sure_values c.problem def indexes before now) values)
+    ArePlaces problem element.family every → sliced ≡ every → AreSure problem old cells element init next comb sliced offers → given ≡ offers → list ≡ list_for (slice_get problem.families element.family) → values ≡ offered_values problem list given →
+    OfCases problem (λ c. (before : Option AbsState) (now : AbsState) → AreReadBy problem old cells c.problem before now → (def : Def) (indexes : List Place) → IsDemand c.problem (defined def indexes) → IsWritten element init next comb c.problem def indexes (λ a. now) → values ≡ sure_values c.problem def indexes before now)
 values_said problem old cells element init next comb every sliced offers given list values are_places is_sliced sure is_given is_list is_values c is well before now read def indexes demand asked =
     let w : World = c.problem.world in
     let n : Numbered = w.classes in
@@ -247,22 +241,17 @@ values_said problem old cells element init next comb every sliced offers given l
     let are : map (place_in n) sliced ≡ every_of c.problem def = ap (map (place_in n)) is_sliced ∙ (are_places w c.problem.kept world ∙ ap (λ k. places_of_family w c.problem.kept (slice_get n.families k)) (sym asked.0.family)) in
     let made : given ≡ map (sure_offer c.problem def indexes before now) sliced = is_given ∙ sure c.problem before now read def indexes demand asked are in
     let kinds : list ≡ list_of kind = is_list ∙ (ap (λ l. list_for (slice_get l element.family)) (families_are c problem is) ∙ (ap (λ k. list_for (slice_get n.families k)) (sym asked.0.family) ∙ list_is o)) in
-    let us : List AbsOutcome = map Some (sure_places c.problem def indexes before now) in
-    let same : (q : AbsOutcome → Bool) → list_any (λ (o : Offer Bool). o.when && q (outcome_in n o.outcome)) given ≡ list_any q us =
-    (λ q. ap (list_any (λ (o : Offer Bool). o.when && q (outcome_in n o.outcome))) made ∙ (offered n f q sliced ∙ ap (λ ps. list_any q (map Some (filter f ps))) are)) in
-    let narrow : (u : AbsOutcome) → Has us u → IsNarrow u =
-    (λ u h. let r = Has-from_map Some (sure_places c.problem def indexes before now) h in subst IsNarrow (sym r.2) (places_narrow c well o r.0 (from_filter f (every_of c.problem def) r.0 r.1))) in
-    subst (λ vs. IsSetOf vs values) (as_outcomes n kind (sure_places c.problem def indexes before now))
-    (subst (IsSetOf (map (written_outcome n kind) us)) (sym (is_values ∙ ap (λ l. with_offers problem l [] given) kinds)) (set_answered problem w world kind given us same narrow))
+    let narrow : (q : Place) → Has (map (place_in n) sliced) q → IsNarrow (Some q) = (λ q h. places_narrow c well o q (subst (λ ps. Has ps q) are h)) in
+    is_values ∙ (ap (λ l. offered_values problem l given) kinds ∙ (ap (offered_values problem (list_of kind)) made ∙ (offered problem w world kind f sliced narrow ∙ ap (λ ps. map (written_place n kind) (filter f ps)) are)))
 
 -- ---- demands as they are written
 
 abbrev pub AreSureBy : Problem → Option (List (Cell Bool)) → List (Cell Bool) → Demand → List AbsValue → Type 0
 AreSureBy problem old cells demand values = OfCases problem (λ c. (before : Option AbsState) (now : AbsState) → AreReadBy problem old cells c.problem before now → (def : Def) (indexes : List Place) → demand ≡ written_demand c.problem.world.classes (defined def indexes) →
-    IsFit c (defined def indexes) → IsKept c.problem (defined def indexes) → IsSetOf (sure_values c.problem def indexes before now) values)
+    IsFit c (defined def indexes) → IsKept c.problem (defined def indexes) → values ≡ sure_values c.problem def indexes before now)
 
 pub definition_said : (problem : Problem) (old : Option (List (Cell Bool))) (cells : List (Cell Bool)) (demand : Demand) (element : Element) (init next comb : DefBody) (values : List AbsValue) → demand ≡ Defined element init next comb →
-    OfCases problem (λ c. (before : Option AbsState) (now : AbsState) → AreReadBy problem old cells c.problem before now → (def : Def) (indexes : List Place) → IsDemand c.problem (defined def indexes) → IsWritten element init next comb c.problem def indexes (λ a. now) → IsSetOf (sure_values c.problem def indexes before now) values) →
+    OfCases problem (λ c. (before : Option AbsState) (now : AbsState) → AreReadBy problem old cells c.problem before now → (def : Def) (indexes : List Place) → IsDemand c.problem (defined def indexes) → IsWritten element init next comb c.problem def indexes (λ a. now) → values ≡ sure_values c.problem def indexes before now) →
     AreSureBy problem old cells demand values
 definition_said problem old cells demand element init next comb values e are c is well before now read def indexes f fit kept =
     let same = written_inner (sym e ∙ f) in

@@ -228,7 +228,7 @@ module _ (p : Problem) (w : World) (is : IsWorldOf p w) where
       at true n = ap value.Rest (least g 255 n)
       at false n = ap value.Rest (least g 255 n)
 
-  value_written : (kind : FlatKind) (outcome : Option Spot) → IsNarrow (outcome_in w.classes outcome) → value_at p (list_of kind) outcome ≡ written_outcome w.classes kind (outcome_in w.classes outcome)
+  pub value_written : (kind : FlatKind) (outcome : Option Spot) → IsNarrow (outcome_in w.classes outcome) → value_at p (list_of kind) outcome ≡ written_outcome w.classes kind (outcome_in w.classes outcome)
   value_written kind None n = refl
   value_written kind (Some (spot.Number k)) n = refl
   value_written kind (Some (spot.Constant other k)) n = by_kind kind other k
@@ -376,7 +376,7 @@ module _ (p : Problem) (w : World) (is : IsWorldOf p w) (kind : FlatKind) (offer
   is_written : (o : Offer Bool) → Has offers o → o.when ≡ true → value_at p (list_of kind) o.outcome ≡ written_outcome w.classes kind (outcome_in w.classes o.outcome)
   is_written o h e = value_written p w is kind o.outcome (narrow (outcome_in w.classes o.outcome) (offered o h e))
 
-  pub set_answered : IsSetOf (map (written_outcome w.classes kind) us) (with_offers p (list_of kind) [] offers)
+  set_answered : IsSetOf (map (written_outcome w.classes kind) us) (with_offers p (list_of kind) [] offers)
   set_answered = record {
     each = λ v h.
         let r = Has-from_map (written_outcome w.classes kind) us h in

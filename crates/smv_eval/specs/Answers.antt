@@ -1,6 +1,6 @@
 -- Answers as written values: which enumeration an expression's constants are among, and how outcomes are written.
-use Rattle.std.specs.Prelude.{◌≢◌, ℕ, List, [], ◌∷◌, ◌++◌, get_or, slice_get, position, unwrap_or, min, Option, Some, None, Bool, true, if◌then◌else◌, nat_eq}
-use Rattle.std.specs.List.{list_any}
+use Rattle.std.specs.Prelude.{◌≢◌, ℕ, List, [], ◌∷◌, ◌++◌, map, get_or, slice_get, position, unwrap_or, min, Option, Some, None, Bool, true, if◌then◌else◌, nat_eq}
+use Rattle.std.specs.List.{filter, list_any}
 use Rattle.smv_core.specs.declared.flat.Simple.{Simple}
 use Rattle.smv_core.specs.declared.flat.Simple.TheVariants.{Enum}
 use Rattle.smv_core.specs.declared.flat.Family.{Family}
@@ -81,3 +81,7 @@ with_offer p list values o = if o.when then with_value values (value_at p list o
 abbrev pub with_offers : Problem → Option ℕ → List AbsValue → List (Offer Bool) → List AbsValue
 with_offers p list values [] = values
 with_offers p list values (o ∷ offers) = with_offers p list (with_offer p list values o) offers
+
+-- each value that is offered, in order
+abbrev pub offered_values : Problem → Option ℕ → List (Offer Bool) → List AbsValue
+offered_values p list offers = map (λ (o : Offer Bool). value_at p list o.outcome) (filter (λ (o : Offer Bool). o.when) offers)

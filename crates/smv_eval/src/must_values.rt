@@ -7,14 +7,13 @@ ghost use Rattle.law_obligations.specs.Obligations.{defined};
 ghost use Rattle.smv_spots.specs.Spots.{place_in};
 ghost use Rattle.smv_problem.specs.Written.{written_demand};
 ghost use Rattle.smv_problem.specs.WellFormed.{OfCases, IsFit};
-ghost use Rattle.smv_eval.specs.Answers.{IsSetOf};
 ghost use Rattle.smv_walks.specs.Demands.{IsDemand};
 ghost use Rattle.smv_walks.specs.Given.{IsWritten};
 ghost use Rattle.smv_eval.specs.Held.{AreReadBy, IsKept};
 ghost use Rattle.smv_eval.specs.Sure.{OfElement, every_of, is_sure as is_sure_of, sure_offer, sure_values as sure_values_of};
 
 use crate::targets::target_at;
-use crate::values::{list_for, values_of};
+use crate::values::{list_for, offered_values};
 use smv_cells::Cell;
 use smv_conditions::offers::Offer;
 use smv_conditions::stores::Plain;
@@ -95,7 +94,7 @@ fn sure_offers(
     Ok(offers)
 }
 
-// Those that are allowed for certain, as values of a state.
+// Those that are allowed for certain, as values of a state, in the order of the type.
 fn element_values(
     alloc: Global,
     problem: &Problem,
@@ -107,7 +106,7 @@ fn element_values(
     comb: &DefBody,
 ) -> Result<Seq<AbsValue>, AllocError>
     ensures { IfOk result (λ values. OfCases problem.entry.now (λ c. (before : Option Abstract) (now : Abstract) → AreReadBy problem.entry.now (option_copied old.entry) cells.now c.problem before now → (def : Def) (indexes : List Place) →
-        IsDemand c.problem (defined def indexes) → IsWritten element.entry.now init.now next.now comb.now c.problem def indexes (λ a. now) → IsSetOf (sure_values_of c.problem def indexes before now) values)) }
+        IsDemand c.problem (defined def indexes) → IsWritten element.entry.now init.now next.now comb.now c.problem def indexes (λ a. now) → values ≡ sure_values_of c.problem def indexes before now)) }
 {
     let places = places_for(alloc, problem, element.family)?;
     let offers = sure_offers(
@@ -121,7 +120,7 @@ fn element_values(
         comb,
         places.as_slice(),
     )?;
-    let values = values_of(
+    let values = offered_values(
         alloc,
         problem,
         list_for(problem, element.family),
@@ -130,7 +129,7 @@ fn element_values(
     Ok(values)
 }
 
-/// The values that the definition of an element allows it for certain, each once; of a demand that is no definition nothing is said.
+/// The values that the definition of an element allows it for certain, in the order of its type; of a demand that is no definition nothing is said.
 pub(crate) fn sure_values(
     alloc: Global,
     problem: &Problem,
@@ -139,7 +138,7 @@ pub(crate) fn sure_values(
     demand: &Demand,
 ) -> Result<Seq<AbsValue>, AllocError>
     ensures { IfOk result (λ values. OfCases problem.entry.now (λ c. (before : Option Abstract) (now : Abstract) → AreReadBy problem.entry.now (option_copied old.entry) cells.now c.problem before now → (def : Def) (indexes : List Place) →
-        demand.entry.now ≡ written_demand c.problem.world.classes (defined def indexes) → IsFit c (defined def indexes) → IsKept c.problem (defined def indexes) → IsSetOf (sure_values_of c.problem def indexes before now) values)) }
+        demand.entry.now ≡ written_demand c.problem.world.classes (defined def indexes) → IsFit c (defined def indexes) → IsKept c.problem (defined def indexes) → values ≡ sure_values_of c.problem def indexes before now)) }
 {
     match demand {
         Demand::Defined {

@@ -168,6 +168,24 @@ pub fn values_of(
     Ok(values)
 }
 
+/// The values that are offered, in order, where constants are of this enumeration.
+pub(crate) fn offered_values(
+    alloc: Global,
+    problem: &Problem,
+    list: Option<u16>,
+    offers: &[Offer<bool>],
+) -> Result<Seq<AbsValue>, AllocError>
+    ensures { IfOk result (λ values. values ≡ spec.offered_values problem.entry.now list offers.now) }
+{
+    let mut values = Seq::new(alloc);
+    for offer in offers {
+        if offer.when {
+            values.push(value_at(problem, list, offer.outcome))?;
+        }
+    }
+    Ok(values)
+}
+
 /// What an expression may be in an abstract state, each outcome once; its variables are of index types.
 #[tactic(auto, using(crate::proofs::ValueLaws::cells_made, smv_outcomes::proofs::KnownLaws::none_known))]
 pub fn may(

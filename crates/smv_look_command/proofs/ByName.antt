@@ -6,7 +6,7 @@ use Rattle.std.specs.Prelude.{option_map}
 use Rattle.clap.specs.Walk.{Row, Text}
 use Rattle.smv_command.specs.Commands.{both, budgets_in, name_in, number_in}
 use Rattle.smv_command.proofs.Values.{both_some, map_some}
-use Rattle.smv_look_command.specs.declared.queries.Query.TheVariants.{Cone, Sets}
+use Rattle.smv_look_command.specs.declared.queries.Query.TheVariants.{Aiger, Cone, Sets}
 use Rattle.smv_look_command.specs.declared.queries.Query.TheVariants as variant
 use Rattle.smv_look_command.specs.Queries.{any_case_in, most_cases, named}
 
@@ -34,10 +34,14 @@ pub front_is : (rows : List Row) → named (codes "front") rows ≡ Some variant
 unfolding named
 front_is rows = refl
 
-pub no_name : (word : Text) (rows : List Row) → bytes_eq word (codes "list") ≡ false → bytes_eq word (codes "cone") ≡ false → bytes_eq word (codes "lint") ≡ false → bytes_eq word (codes "explain") ≡ false
-    → bytes_eq word (codes "sets") ≡ false → bytes_eq word (codes "front") ≡ false → named word rows ≡ None
+pub aiger_is : (rows : List Row) → named (codes "aiger") rows ≡ option_map (λ p. Aiger p.0 p.1) (both (name_in rows) (number_in most_cases (codes "CASE") rows))
 unfolding named
-no_name word rows t1 t2 t3 t4 t5 t6 = rw (t1, t2, t3, t4, t5, t6) refl
+aiger_is rows = refl
+
+pub no_name : (word : Text) (rows : List Row) → bytes_eq word (codes "list") ≡ false → bytes_eq word (codes "cone") ≡ false → bytes_eq word (codes "lint") ≡ false → bytes_eq word (codes "explain") ≡ false
+    → bytes_eq word (codes "sets") ≡ false → bytes_eq word (codes "front") ≡ false → bytes_eq word (codes "aiger") ≡ false → named word rows ≡ None
+unfolding named
+no_name word rows t1 t2 t3 t4 t5 t6 t7 = rw (t1, t2, t3, t4, t5, t6, t7) refl
 
 -- ---- the same at a word that is the name
 
@@ -62,6 +66,9 @@ at_sets word rows e = at_word word (codes "sets") rows e ∙ sets_is rows
 pub at_front : (word : Text) (rows : List Row) → bytes_eq word (codes "front") ≡ true → named word rows ≡ Some variant.Front
 at_front word rows e = at_word word (codes "front") rows e ∙ front_is rows
 
+pub at_aiger : (word : Text) (rows : List Row) → bytes_eq word (codes "aiger") ≡ true → named word rows ≡ option_map (λ p. Aiger p.0 p.1) (both (name_in rows) (number_in most_cases (codes "CASE") rows))
+at_aiger word rows e = at_word word (codes "aiger") rows e ∙ aiger_is rows
+
 -- what a named query was given
 pub given_to_cone : (word : Text) (rows : List Row) → bytes_eq word (codes "cone") ≡ true → is_some (named word rows) ≡ true
     → (is_some (name_in rows) ≡ true) × (is_some (number_in most_cases (codes "CASE") rows) ≡ true)
@@ -75,3 +82,8 @@ given_to_sets word rows e there =
     let (name, more) = both_some (name_in rows) case_and_budgets (map_some (λ p. Sets p.0 p.1.0 p.1.1) (both (name_in rows) case_and_budgets) (ap is_some (sym (at_sets word rows e)) ∙ there)) in
     let (case, budgets) = both_some (any_case_in rows) (budgets_in rows) more in
     (name, case, budgets)
+
+pub given_to_aiger : (word : Text) (rows : List Row) → bytes_eq word (codes "aiger") ≡ true → is_some (named word rows) ≡ true
+    → (is_some (name_in rows) ≡ true) × (is_some (number_in most_cases (codes "CASE") rows) ≡ true)
+given_to_aiger word rows e there =
+    both_some (name_in rows) (number_in most_cases (codes "CASE") rows) (map_some (λ p. Aiger p.0 p.1) (both (name_in rows) (number_in most_cases (codes "CASE") rows)) (ap is_some (sym (at_aiger word rows e)) ∙ there))

@@ -16,8 +16,8 @@ use Rattle.smv_command.proofs.Values.{both_given, both_there, number_given, word
 use Rattle.smv_command.specs.CommandLine as smv
 use Rattle.smv_look_command.specs.CommandLine as line
 use Rattle.smv_look_command.specs.Queries.{any_case, any_case_in, most_cases, named}
-use Rattle.smv_look_command.specs.declared.queries.Query.TheVariants.{Cone, Sets}
-use Rattle.smv_look_command.proofs.ByName.{cone_is, explain_is, front_is, lint_is, list_is, sets_is}
+use Rattle.smv_look_command.specs.declared.queries.Query.TheVariants.{Aiger, Cone, Sets}
+use Rattle.smv_look_command.proofs.ByName.{aiger_is, cone_is, explain_is, front_is, lint_is, list_is, sets_is}
 
 -- the subcommands as a parse sees them, once the command is built
 abbrev above : Shape
@@ -111,6 +111,15 @@ sets_given rest e =
     (both_there (any_case_in rows) (budgets_in rows) (any_given c rows each_of_sets.1.0 level.fits)
     (budgets_given c (with_default (with_default (settled c (walk c [] nothing_held rest).held).rows name) any) each_of_sets.1.1.0 each_of_sets.1.1.1.0 level.fits))
 
+aiger_given : (rest : List Text) → Gives rest (seen line.aiger)
+aiger_given rest e =
+    let c = name ∷ case ∷ [] in
+    let rows = rows_after c [] rest in
+    let level = level_is (seen line.aiger) [] rest false [] (are_known c each_of_cone) each_of_cone e in
+    let named = value_of c name rows each_of_cone.0 level.fits (has_given (codes "NAME") rows (absent _ _ level.given).0) in
+    ap is_some (aiger_is rows) ∙ both_given (λ p. Aiger p.0 p.1) (name_in rows) (number_in most_cases (codes "CASE") rows) (ap is_some named.first)
+    (case_given rows (value_of c case rows each_of_cone.1.0 level.fits (has_default (with_default (settled c (walk c [] nothing_held rest).held).rows name) case (codes "1") [] refl)))
+
 among_gives : (s : Shape) (rest : List Text) → Among s (built line.smv_look).subs → Gives rest s
 among_gives s rest (inl is) = subst (Gives rest) (sym is) (λ e. ap is_some (list_is (rows_after [] [] rest)))
 among_gives s rest (inr (inl is)) = subst (Gives rest) (sym is) (cone_given rest)
@@ -118,7 +127,8 @@ among_gives s rest (inr (inr (inl is))) = subst (Gives rest) (sym is) (λ e. ap 
 among_gives s rest (inr (inr (inr (inl is)))) = subst (Gives rest) (sym is) (λ e. ap is_some (explain_is (rows_after [] [] rest)))
 among_gives s rest (inr (inr (inr (inr (inl is))))) = subst (Gives rest) (sym is) (sets_given rest)
 among_gives s rest (inr (inr (inr (inr (inr (inl is)))))) = subst (Gives rest) (sym is) (λ e. ap is_some (front_is (rows_after [] [] rest)))
-among_gives s rest (inr (inr (inr (inr (inr (inr never)))))) = absurd never
+among_gives s rest (inr (inr (inr (inr (inr (inr (inl is))))))) = subst (Gives rest) (sym is) (aiger_given rest)
+among_gives s rest (inr (inr (inr (inr (inr (inr (inr never))))))) = absurd never
 
 -- words without a fault name a query
 pub taken_named : (words : List Text) → fault_of line.smv_look words ≡ [] → is_some (option_and_then (λ found. named found.0 found.1) (subcommand_of line.smv_look words)) ≡ true

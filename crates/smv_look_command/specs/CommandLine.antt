@@ -34,6 +34,9 @@ sets = subcommand (codes "sets") (name ∷ any_case ∷ nodes ∷ steps ∷ [])
 abbrev pub front : Shape
 front = subcommand (codes "front") []
 
+abbrev pub aiger : Shape
+aiger = subcommand (codes "aiger") (name ∷ case ∷ [])
+
 -- no program's name stands before the words, a subcommand is required, and nothing asks for help or the version
 abbrev pub bare : Shape
 bare = record (new_shape (codes "smv_look")) {
@@ -45,4 +48,4 @@ bare = record (new_shape (codes "smv_look")) {
 }
 
 abbrev pub smv_look : App
-smv_look = record { top = record bare { is_leaf = false }; subs = list ∷ cone ∷ lint ∷ explain ∷ sets ∷ front ∷ [] }
+smv_look = record { top = record bare { is_leaf = false }; subs = list ∷ cone ∷ lint ∷ explain ∷ sets ∷ front ∷ aiger ∷ [] }

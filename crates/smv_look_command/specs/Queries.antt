@@ -30,7 +30,8 @@ named word rows =
     else (if bytes_eq word (codes "explain") then Some variant.Explain
     else (if bytes_eq word (codes "sets") then option_map (λ p. variant.Sets p.0 p.1.0 p.1.1) (both (name_in rows) (both (any_case_in rows) (budgets_in rows)))
     else (if bytes_eq word (codes "front") then Some variant.Front
-    else None)))))
+    else (if bytes_eq word (codes "aiger") then option_map (λ p. variant.Aiger p.0 p.1) (both (name_in rows) (number_in most_cases (codes "CASE") rows))
+    else None))))))
 
 -- the query that the words are: that of the subcommand that clap finds in them, where it finds no fault
 unfoldable pub query_of : List Text → Option Query

@@ -18,7 +18,8 @@ pub(crate) fn smv_look<'a>(alloc: Global) -> Result<Command<'a>, AllocError>
         .subcommand(Command::new(alloc, "lint"))?
         .subcommand(Command::new(alloc, "explain"))?
         .subcommand(sets(alloc)?)?
-        .subcommand(Command::new(alloc, "front"))
+        .subcommand(Command::new(alloc, "front"))?
+        .subcommand(aiger(alloc)?)
 }
 
 // The command before its subcommands.
@@ -49,6 +50,14 @@ fn sets<'a>(alloc: Global) -> Result<Command<'a>, AllocError>
         .arg(any_case(alloc))?
         .arg(nodes(alloc))?
         .arg(steps(alloc))
+}
+
+fn aiger<'a>(alloc: Global) -> Result<Command<'a>, AllocError>
+    ensures { IfOk result (HasShape line.aiger) }
+{
+    Command::new(alloc, "aiger")
+        .arg(name(alloc))?
+        .arg(case(alloc))
 }
 
 fn name<'a>(alloc: Global) -> Arg<'a>

@@ -22,6 +22,11 @@ pub enum Query {
         case: Option<usize>,
         budgets: Budgets,
     },
+    /// The circuit of a case of the unit of this name; cases are numbered from 1.
+    Aiger {
+        name: Name,
+        case: usize,
+    },
     /// What stands before the sets in the proof document of a text.
     Front,
 }

@@ -68,6 +68,10 @@ fn named(alloc: Global, word: &str, matches: &ArgMatches<'_>) -> Result<Query, A
         })
     } else if word == "front" {
         Ok(Query::Front)
+    } else if word == "aiger" {
+        let name = text_in(alloc, matches, "NAME")?;
+        let case = case_in(matches);
+        Ok(Query::Aiger { name, case })
     } else {
         unreachable!()
     }

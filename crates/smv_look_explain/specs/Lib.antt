@@ -1,2 +1,3 @@
 pub mod Faults
+pub mod Others
 pub mod Rules

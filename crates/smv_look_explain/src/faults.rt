@@ -36,8 +36,8 @@ fn behind(text: &[u8], at: usize) -> &[u8]
     &text[at.min(text.len())..]
 }
 
-// What stands before an offset in its line.
-fn front_of(alloc: Global, text: &[u8], at: usize) -> Result<Vec<u8>, AllocError>
+/// What stands before an offset in its line.
+pub(crate) fn front_of(alloc: Global, text: &[u8], at: usize) -> Result<Vec<u8>, AllocError>
     ensures { IfOk result (λ front. front.items ≡ before_in_line text.now at) }
 {
     let mut front = Vec::new(alloc);
@@ -58,8 +58,8 @@ fn blank_for(byte: u8) -> u8
     if byte == b'\t' { b'\t' } else { b' ' }
 }
 
-// Writes a blank in the place of each byte.
-fn push_blanks(out: &mut Vec<u8>, front: &[u8]) -> Result<(), AllocError>
+/// Writes a blank in the place of each byte.
+pub(crate) fn push_blanks(out: &mut Vec<u8>, front: &[u8]) -> Result<(), AllocError>
     ensures { OnOk result (out.new.items ≡ out.old.items ++ map blank_for front.now) }
 {
     for byte in front {
@@ -68,8 +68,13 @@ fn push_blanks(out: &mut Vec<u8>, front: &[u8]) -> Result<(), AllocError>
     Ok(())
 }
 
-// Writes the line of the text, which begins with this front.
-fn push_shown(out: &mut Vec<u8>, text: &[u8], at: usize, front: &[u8]) -> Result<(), AllocError>
+/// Writes the line of the text, which begins with this front.
+pub(crate) fn push_shown(
+    out: &mut Vec<u8>,
+    text: &[u8],
+    at: usize,
+    front: &[u8],
+) -> Result<(), AllocError>
     requires { front.now ≡ before_in_line text.now at }
     ensures { OnOk result (out.new.items ≡ out.old.items ++ shown_line text.now at) }
 {

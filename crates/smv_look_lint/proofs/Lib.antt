@@ -1,7 +1,6 @@
 pub mod KnownLaws
 pub mod Listing
 pub mod PartEquations
-pub mod PlaceEquations
 pub mod SortLaws
 pub mod StrayEquations
 pub mod TruthLaws

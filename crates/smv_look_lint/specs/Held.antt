@@ -8,13 +8,6 @@ use Rattle.law_designs.specs.SetOperands.{first_at}
 use Rattle.smv_look_lint.specs.declared.warnings.Warning.{Warning}
 use Rattle.smv_look_lint.specs.Strays.{stray, stray_span, strays}
 
-unfoldable pub place : FlatExpr → ℕ
-place e = first_at e
-
-abbrev pub first_place : List FlatExpr → ℕ
-first_place [] = 0
-first_place (e ∷ es) = place e
-
 -- the strays of a member of a set
 abbrev pub member_strays : ℕ → Simple → FlatMember → List Warning
 member_strays family over (One e) = strays family over e

@@ -14,6 +14,7 @@ held_by marks = record {
   defined = is_noted marks.defined;
   read = is_noted marks.read;
   mapped = is_noted marks.mapped;
+  picked = is_noted marks.picked;
   inputs = is_noted marks.inputs;
   outputs = is_noted marks.outputs;
 }
@@ -27,5 +28,6 @@ pub record IsSameKnown (one other : Known) : Type 0 where
   pub defined : AreAlike one.defined other.defined
   pub read : AreAlike one.read other.read
   pub mapped : AreAlike one.mapped other.mapped
+  pub picked : AreAlike one.picked other.picked
   pub inputs : AreAlike one.inputs other.inputs
   pub outputs : AreAlike one.outputs other.outputs

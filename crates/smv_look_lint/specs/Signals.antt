@@ -1,12 +1,14 @@
--- Which signals of a design are defined, are read, and are what a map is about.
-use Rattle.std.specs.Prelude.{ℕ, List, [], ◌++◌, map, flat_map, filter, slice_get, option_to_list, Option, Bool, not, nat_eq}
+-- Which signals of a design are defined, are read, are what a map is about, and have a map that a proof uses.
+use Rattle.std.specs.Prelude.{ℕ, List, [], ◌∷◌, ◌++◌, map, flat_map, filter, slice_get, option_to_list, Option, Some, None, Bool, not, nat_eq}
 use Rattle.std.specs.List.{list_any}
+use Rattle.smv_core.specs.declared.flat.Choice.{Choice}
 use Rattle.smv_core.specs.declared.flat.Claim.{Claim}
 use Rattle.smv_core.specs.declared.flat.Def.{Def}
 use Rattle.smv_core.specs.declared.flat.Design.{Design}
 use Rattle.smv_core.specs.declared.flat.FlatExpr.{FlatExpr}
 use Rattle.smv_core.specs.declared.flat.FlatPair.{FlatPair}
 use Rattle.smv_core.specs.declared.flat.FlatSplit.{FlatSplit}
+use Rattle.smv_core.specs.declared.flat.Pick.{Pick}
 use Rattle.smv_core.specs.declared.flat.Unit.{Unit}
 use Rattle.law_designs.specs.Reading.{Reading, Reference, references}
 use Rattle.law_designs.specs.LayerFaults.{assignments_of}
@@ -55,3 +57,15 @@ module _ (d : Design) where
   -- the families of which a unit is a map
   abbrev pub families_mapped : List Unit → List ℕ
   families_mapped units = flat_map map_families units
+
+-- the family of which a definition in a layer is chosen; one that is free has none
+abbrev pub picked_in : Pick → Option ℕ → List ℕ
+picked_in p None = []
+picked_in p (Some layer) = p.family ∷ []
+
+abbrev pub picked : Pick → List ℕ
+picked p = picked_in p p.layer
+
+-- the families of which a proof uses a map
+abbrev pub families_picked : List Choice → List ℕ
+families_picked choices = flat_map (λ (choice : Choice). flat_map picked choice.picks) choices

@@ -1,12 +1,12 @@
-//! What `lint` warns of: values that a signal's type does not have, signals that are free or that nothing reads, and a text without units.
+//! What `lint` warns of: values that a signal's type does not have, what is doubted by the bounds of expressions, signals that are free or that nothing reads, and a text without units.
 //!
-//! For the call of `smv_look`. A reader begins with `specs/Lint`; `specs/Lines` has the lines. `strays` finds the values, `signals` which signals are defined, read and mapped, `roles` the inputs and outputs of a text, `lint` all warnings in the order of their places, `lines` writes them.
+//! For the call of `smv_look`. A reader begins with `specs/Lint`; `specs/Lines` has the lines. `strays` finds the values, `once` what is doubted, at each place once, `signals` which signals are defined, read and mapped, `roles` the inputs and outputs of a text, `lint` all warnings in the order of their places, `lines` writes them.
 #![tactic(auto)]
 
 mod lines;
 mod lint;
 mod marks;
-mod places;
+mod once;
 mod roles;
 mod signals;
 mod strays;

@@ -1,13 +1,15 @@
 // The lines of `lint`.
 ghost use Rattle.std.specs.Prelude.{◌≡◌, ◌++◌, codes, slice_get, option_copied, IfOk, OnOk};
 ghost use Rattle.law_splits.specs.Leaves.{name_of_family};
+ghost use Rattle.smv_look_bounds.specs.declared.doubts.What.TheVariants as what;
 ghost use Rattle.smv_look_lint.specs.declared.warnings.Flaw.TheVariants as flaw;
-ghost use Rattle.smv_look_lint.specs.Lines.{family_line, flaw_text, lint_lines, nothing_proved, value_text, warning_line};
+ghost use Rattle.smv_look_lint.specs.Lines.{bounds_text, doubt_text, family_line, flaw_text, lint_lines, nothing_proved, value_text, warning_line, within_text};
 
 use crate::lint::warnings_of;
 use crate::warnings::{Flaw, Warning};
-use smv_core::flat::{Design, Family, Unit};
+use smv_core::flat::{Design, Family, Simple, Unit};
 use smv_core::tree::{Span, Text};
+use smv_look_bounds::{Bounds, What};
 use smv_look_lines::{push_place, push_type};
 use smv_problem::Plan;
 use smv_report_lines::push_number;
@@ -16,6 +18,14 @@ use std::alloc::{AllocError, Global};
 const SO_FREE: &[u8] = b", so nothing is ruled out here";
 
 const NO_VALUE: &[u8] = b"this is below 0 or above 511, so nothing is ruled out here";
+
+const ABOVE: &[u8] =
+    b"types and conditions do not keep this sum up to 511; above that it is Undefined";
+
+const BELOW: &[u8] =
+    b"types and conditions do not keep this difference from going below 0; there it is Undefined";
+
+const ALWAYS: &[u8] = b"this condition is made of constants alone, so it is the same at each time";
 
 const UNASSIGNED: &[u8] =
     b"nothing outside layers assigns it, so it is free; declare it as an input if that is meant";
@@ -26,6 +36,9 @@ const UNREAD: &[u8] =
     b"nothing reads it and no map is about it; declare it as an output if that is meant";
 
 const UNUSED: &[u8] = b"nothing reads it and no map is about it";
+
+const UNAPPLIED: &[u8] =
+    b"nothing reads it and no proof uses its maps; declare it as an output if that is meant";
 
 // Writes the type of a family's values.
 fn push_values(
@@ -78,6 +91,68 @@ fn push_span(
     out.extend_from_slice(SO_FREE)
 }
 
+// Writes bounds.
+fn push_bounds(out: &mut Vec<u8>, bounds: Bounds) -> Result<(), AllocError>
+    ensures { OnOk result (out.new.items ≡ out.old.items ++ bounds_text bounds) }
+{
+    push_number(out, usize::from(bounds.low))?;
+    out.extend_from_slice(b"..")?;
+    push_number(out, usize::from(bounds.high))?;
+    Ok(())
+}
+
+// Writes that something has these bounds.
+fn push_within(out: &mut Vec<u8>, bounds: Bounds) -> Result<(), AllocError>
+    ensures { OnOk result (out.new.items ≡ out.old.items ++ within_text bounds) }
+{
+    out.extend_from_slice(b"by types and conditions this is within ")?;
+    push_bounds(out, bounds)?;
+    Ok(())
+}
+
+// Writes that an index has bounds which are not within its type.
+fn push_index(
+    out: &mut Vec<u8>,
+    design: &Design,
+    bounds: Bounds,
+    over: Simple,
+) -> Result<(), AllocError>
+    ensures { OnOk result (out.new.items ≡ out.old.items ++ doubt_text design.now (what.Index bounds over)) }
+{
+    push_within(out, bounds)?;
+    out.extend_from_slice(b"; as an index outside ")?;
+    push_type(out, design, over)?;
+    out.extend_from_slice(b" it makes what is read Undefined")
+}
+
+// Writes that a value has bounds which are not within the type of what it is given to.
+fn push_value(
+    out: &mut Vec<u8>,
+    design: &Design,
+    bounds: Bounds,
+    over: Simple,
+) -> Result<(), AllocError>
+    ensures { OnOk result (out.new.items ≡ out.old.items ++ doubt_text design.now (what.Value bounds over)) }
+{
+    push_within(out, bounds)?;
+    out.extend_from_slice(b"; where it is outside ")?;
+    push_type(out, design, over)?;
+    out.extend_from_slice(b", nothing is ruled out")
+}
+
+// Writes what is doubted of a definition.
+fn push_doubt(out: &mut Vec<u8>, design: &Design, what: What) -> Result<(), AllocError>
+    ensures { OnOk result (out.new.items ≡ out.old.items ++ doubt_text design.now what) }
+{
+    match what {
+        What::Above => out.extend_from_slice(ABOVE),
+        What::Below => out.extend_from_slice(BELOW),
+        What::Index { bounds, over } => push_index(out, design, bounds, over),
+        What::Value { bounds, over } => push_value(out, design, bounds, over),
+        What::Always => out.extend_from_slice(ALWAYS),
+    }
+}
+
 // Writes what is wrong with a family.
 fn push_flaw(
     out: &mut Vec<u8>,
@@ -90,10 +165,12 @@ fn push_flaw(
     match flaw {
         Flaw::Stray { value } => push_stray(out, design, family, value),
         Flaw::StraySpan { span } => push_span(out, design, family, span),
+        Flaw::Doubted { what } => push_doubt(out, design, what),
         Flaw::Unassigned => out.extend_from_slice(UNASSIGNED),
         Flaw::Undefined => out.extend_from_slice(UNDEFINED),
         Flaw::Unread => out.extend_from_slice(UNREAD),
         Flaw::Unused => out.extend_from_slice(UNUSED),
+        Flaw::Unapplied => out.extend_from_slice(UNAPPLIED),
     }
 }
 

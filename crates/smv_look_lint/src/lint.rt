@@ -1,13 +1,14 @@
 // All warnings, in the order of their places.
-ghost use Rattle.std.specs.Prelude.{◌≡◌, ◌++◌, ◌∷◌, ◌||◌, [], IfOk, OnOk};
+ghost use Rattle.std.specs.Prelude.{◌≡◌, ◌++◌, ◌∷◌, [], IfOk, OnOk};
 ghost use Rattle.smv_look_lint.specs.Lint as spec;
-ghost use Rattle.smv_look_lint.specs.Lint.{family_warnings, free_warning, known_of, unread_warning, value_warnings, warnings_from, warnings_of};
+ghost use Rattle.smv_look_lint.specs.Lint.{definition_warnings, doubt_warnings, family_warnings, free_warning, idle_warning, known_of, unread_warning, value_warnings, warnings_from, warnings_of};
 ghost use Rattle.smv_look_lint.specs.Marks.{IsSameKnown, held_by};
 ghost use Rattle.smv_look_lint.specs.Strays.{warning};
 
 use crate::marks::{is_noted, set_of};
+use crate::once::{doubts_of, push_one_each};
 use crate::roles::names_declared;
-use crate::signals::{families_defined, families_mapped, families_read};
+use crate::signals::{families_defined, families_mapped, families_picked, families_read};
 use crate::strays::push_def;
 use crate::warnings::{Flaw, Warning};
 use smv_core::flat::{Design, Family};
@@ -22,6 +23,7 @@ struct Marks {
     defined: HashSet<u32>,
     read: HashSet<u32>,
     mapped: HashSet<u32>,
+    picked: HashSet<u32>,
     inputs: HashSet<u32>,
     outputs: HashSet<u32>,
 }
@@ -34,17 +36,20 @@ fn marks_of(alloc: Global, tree: &Text, plan: &Plan) -> Result<Marks, AllocError
     let all_defined = families_defined(alloc, design)?;
     let all_read = families_read(alloc, design)?;
     let all_mapped = families_mapped(alloc, design, plan.units.as_slice())?;
+    let all_picked = families_picked(alloc, plan.choices.as_slice())?;
     let all_inputs = names_declared(alloc, Role::Input, tree)?;
     let all_outputs = names_declared(alloc, Role::Output, tree)?;
     let defined = set_of(alloc, all_defined.as_slice())?;
     let read = set_of(alloc, all_read.as_slice())?;
     let mapped = set_of(alloc, all_mapped.as_slice())?;
+    let picked = set_of(alloc, all_picked.as_slice())?;
     let inputs = set_of(alloc, all_inputs.as_slice())?;
     let outputs = set_of(alloc, all_outputs.as_slice())?;
     Ok(Marks {
         defined,
         read,
         mapped,
+        picked,
         inputs,
         outputs,
     })
@@ -78,16 +83,29 @@ fn push_free(
     }
 }
 
-// Something reads a family, a map is about it, or it is an output.
-fn is_wanted(marks: &Marks, number: u16, family: &Family) -> bool
-    ensures { result ≡ ((held_by marks.now).read number || ((held_by marks.now).mapped number || (held_by marks.now).outputs family.now.at)) }
+// What is wrong with a family that nothing reads and that is no output.
+fn push_idle(
+    out: &mut Vec<Warning>,
+    marks: &Marks,
+    number: u16,
+    family: &Family,
+) -> Result<(), AllocError>
+    ensures { OnOk result (out.new.items ≡ out.old.items ++ idle_warning (held_by marks.now) number family.now) }
 {
-    is_noted(&marks.read, u32::from(number))
-        || is_noted(&marks.mapped, u32::from(number))
-        || is_noted(&marks.outputs, family.at)
+    if is_noted(&marks.mapped, u32::from(number)) {
+        if is_noted(&marks.picked, u32::from(number)) {
+            Ok(())
+        } else {
+            push(out, number, family.at, Flaw::Unapplied)
+        }
+    } else if family.is_abstract || is_noted(&marks.inputs, family.at) {
+        push(out, number, family.at, Flaw::Unused)
+    } else {
+        push(out, number, family.at, Flaw::Unread)
+    }
 }
 
-// What is wrong with a family that nothing reads.
+// What is wrong with a family, if nothing reads it.
 fn push_unread(
     out: &mut Vec<Warning>,
     marks: &Marks,
@@ -96,12 +114,10 @@ fn push_unread(
 ) -> Result<(), AllocError>
     ensures { OnOk result (out.new.items ≡ out.old.items ++ unread_warning (held_by marks.now) number family.now) }
 {
-    if is_wanted(marks, number, family) {
+    if is_noted(&marks.read, u32::from(number)) || is_noted(&marks.outputs, family.at) {
         Ok(())
-    } else if family.is_abstract || is_noted(&marks.inputs, family.at) {
-        push(out, number, family.at, Flaw::Unused)
     } else {
-        push(out, number, family.at, Flaw::Unread)
+        push_idle(out, marks, number, family)
     }
 }
 
@@ -148,6 +164,28 @@ fn push_values(out: &mut Vec<Warning>, design: &Design) -> Result<(), AllocError
     Ok(())
 }
 
+// What is doubted of the definitions, at each place once.
+#[tactic(auto, using(crate::proofs::Listing::listing))]
+fn push_once(out: &mut Vec<Warning>, alloc: Global, design: &Design) -> Result<(), AllocError>
+    ensures { OnOk result (out.new.items ≡ out.old.items ++ doubt_warnings design.now) }
+{
+    let doubts = in_order(doubts_of(alloc, design)?)?;
+    push_one_each(out, doubts.as_slice())
+}
+
+// What is wrong with the definitions.
+#[tactic(auto, using(crate::proofs::Listing::listing))]
+fn push_definitions(
+    out: &mut Vec<Warning>,
+    alloc: Global,
+    design: &Design,
+) -> Result<(), AllocError>
+    ensures { OnOk result (out.new.items ≡ out.old.items ++ definition_warnings design.now) }
+{
+    push_values(out, design)?;
+    push_once(out, alloc, design)
+}
+
 // By their places.
 fn in_order(mut warnings: Vec<Warning>) -> Result<Vec<Warning>, AllocError>
     ensures { IfOk result (λ sorted. sorted.items ≡ spec.in_order warnings.items) }
@@ -166,7 +204,7 @@ pub(crate) fn warnings_of(
 {
     let marks = marks_of(alloc, tree, plan)?;
     let mut warnings = Vec::new(alloc);
-    push_values(&mut warnings, &plan.design)?;
+    push_definitions(&mut warnings, alloc, &plan.design)?;
     push_families(&mut warnings, &marks, plan.design.families.as_slice())?;
     in_order(warnings)
 }

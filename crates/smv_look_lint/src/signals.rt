@@ -1,11 +1,11 @@
-// Which signals of a design are defined, are read, and are what a map is about.
+// Which signals of a design are defined, are read, are what a map is about, and have a map that a proof uses.
 ghost use Rattle.std.specs.Prelude.{◌≡◌, ◌++◌, flat_map, map, IfOk, OnOk};
 ghost use Rattle.law_designs.specs.LayerFaults.{assignments_of};
 ghost use Rattle.smv_loops.specs.Held.{reading_of, reference_of};
 ghost use Rattle.smv_look_lint.specs.Signals as spec;
-ghost use Rattle.smv_look_lint.specs.Signals.{families_defined, families_mapped, families_of, families_read, map_families, other_families, read_by, read_by_def, read_by_split};
+ghost use Rattle.smv_look_lint.specs.Signals.{families_defined, families_mapped, families_of, families_picked, families_read, map_families, other_families, picked, read_by, read_by_def, read_by_split};
 
-use smv_core::flat::{Claim, Def, Design, FlatExpr, FlatPair, FlatSplit, Unit};
+use smv_core::flat::{Choice, Claim, Def, Design, FlatExpr, FlatPair, FlatSplit, Pick, Unit};
 use smv_loops::reading::{Held, Read, readings, references};
 use std::alloc::{AllocError, Global};
 
@@ -177,6 +177,29 @@ pub(crate) fn families_mapped(
     let mut families = Vec::new(alloc);
     for unit in units {
         push_unit(&mut families, design, *unit)?;
+    }
+    Ok(families)
+}
+
+// Notes the families of which a definition in a layer is chosen.
+fn push_picks(out: &mut Vec<u32>, picks: &[Pick]) -> Result<(), AllocError>
+    ensures { OnOk result (out.new.items ≡ out.old.items ++ flat_map picked picks.now) }
+{
+    for pick in picks {
+        if pick.layer.is_some() {
+            out.push(u32::from(pick.family))?;
+        }
+    }
+    Ok(())
+}
+
+/// The families of which a proof uses a map.
+pub(crate) fn families_picked(alloc: Global, choices: &[Choice]) -> Result<Vec<u32>, AllocError>
+    ensures { IfOk result (λ families. families.items ≡ families_picked choices.now) }
+{
+    let mut families = Vec::new(alloc);
+    for choice in choices {
+        push_picks(&mut families, choice.picks.as_slice())?;
     }
     Ok(families)
 }

@@ -1,15 +1,15 @@
 // Values that an assignment gives its signal and that the signal's type does not have.
-ghost use Rattle.std.specs.Prelude.{◌≡◌, ◌++◌, flat_map, option_copied, slice_get, OnOk};
+ghost use Rattle.std.specs.Prelude.{◌≡◌, ◌++◌, flat_map, slice_get, OnOk};
 ghost use Rattle.smv_indexes.specs.Indexes.{index_of};
 ghost use Rattle.smv_look_lint.specs.Held.{member_strays, stray_of};
 ghost use Rattle.smv_look_lint.specs.Strays as spec;
 ghost use Rattle.smv_look_lint.specs.Strays.{def_strays, part_strays, stray, stray_span, strays, strays_of_def};
 
-use crate::places::first_at;
 use crate::warnings::{Flaw, Warning};
 use smv_core::flat::{Def, DefBody, Family, FlatExpr, FlatMember, Simple};
 use smv_core::tree::Span;
 use smv_indexes::{Index, known};
+use smv_look_bounds::{family_at, first_at};
 use std::alloc::AllocError;
 
 // A type has this number.
@@ -76,7 +76,7 @@ fn push_span(
 }
 
 // Notes the value of an expression that is neither a set nor a `?:`.
-#[tactic(auto, unfolding(crate::specs::Held::stray_of, crate::specs::Held::place))]
+#[tactic(auto, unfolding(crate::specs::Held::stray_of, smv_look_bounds::specs::Places::place))]
 fn push_constant(
     out: &mut Vec<Warning>,
     family: u16,
@@ -191,13 +191,6 @@ fn push_all(out: &mut Vec<Warning>, over: Simple, def: &Def) -> Result<(), Alloc
     push_part(out, def.family, over, &def.init)?;
     push_part(out, def.family, over, &def.next)?;
     push_part(out, def.family, over, &def.comb)
-}
-
-// The family of this number.
-fn family_at(families: &[Family], family: u16) -> Option<&Family>
-    ensures { option_copied result ≡ slice_get families.now family }
-{
-    families.get(family as usize)
 }
 
 /// Notes the values that a definition gives its signal and that the signal's type does not have.

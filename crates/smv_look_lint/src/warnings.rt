@@ -1,5 +1,6 @@
 // What is warned of, as data.
 use smv_core::tree::Span;
+use smv_look_bounds::What;
 
 /// What is wrong with a signal.
 #[derive(Clone, Copy)]
@@ -8,6 +9,8 @@ pub enum Flaw {
     Stray { value: Option<u16> },
     /// An assignment gives it one of these numbers, of which its type does not have all.
     StraySpan { span: Span },
+    /// Something in its definition is doubted.
+    Doubted { what: What },
     /// Nothing outside layers assigns it, and it is no input.
     Unassigned,
     /// It is abstract, and no layer defines it.
@@ -16,6 +19,8 @@ pub enum Flaw {
     Unread,
     /// The same of an abstract signal, or of an input.
     Unused,
+    /// Nothing reads it, it is no output, and maps are about it, none of which a proof uses.
+    Unapplied,
 }
 
 /// What is wrong with the signal of this number among the families, and the offset where it stands.

@@ -24,10 +24,10 @@ in_middle [] behind x = first
 in_middle (y ∷ before) behind x = later (in_middle before behind x)
 
 module _ (s : Script) (bits : Bits) (nodes steps : ℕ) where
-  -- the verdict that is told of a leaf with room is of one of its cases, where it is unknown
+  -- the verdict that is told of a leaf with room is of one of its cases, where it is false or unknown
   told_case : CasesAreOfLeaves → (u : ℕ) (entry : Entry) → HasRoom s.design entry.leaf entry.choice → (v : Verdict) → IsToldOf s bits nodes steps u entry v → HasCase s.design entry.leaf entry.choice v
   told_case law u entry room True told = tt
-  told_case law u entry room (False case elements path) told = tt
+  told_case law u entry room (False case elements path) told = law s.design entry.leaf entry.choice room.cases case.classes (subst (λ xs. Has xs case.classes) (sym told.1.stands) (in_middle told.1.before told.1.behind case.classes))
   told_case law u entry room (UnknownNodes case count) told = law s.design entry.leaf entry.choice room.cases case.classes (subst (λ xs. Has xs case.classes) (sym told.stands) (in_middle told.before told.behind case.classes))
   told_case law u entry room (UnknownSteps case) told = law s.design entry.leaf entry.choice room.cases case.classes (subst (λ xs. Has xs case.classes) (sym told.stands) (in_middle told.before told.behind case.classes))
 

@@ -1,3 +1,4 @@
 pub mod CaseLaws
 pub mod OrderLaws
 pub mod Steps
+mod AllowedLaws

@@ -13,10 +13,10 @@ use Rattle.smv_problem.specs.declared.report.Verdict.{Verdict}
 use Rattle.smv_problem.specs.declared.report.Verdict.TheVariants.{True, False, UnknownNodes, UnknownSteps}
 use Rattle.smv_problem.specs.declared.report.UnitResult.{UnitResult}
 
--- an unknown unit is so in one of its cases
+-- a unit that is false or unknown is so in one of its cases
 abbrev pub HasCase : Design → Leaf → Choice → Verdict → Type 0
 HasCase d leaf choice True = Unit {0}
-HasCase d leaf choice (False case elements path) = Unit {0}
+HasCase d leaf choice (False case elements path) = IsCaseOf d leaf choice case.classes
 HasCase d leaf choice (UnknownNodes case count) = IsCaseOf d leaf choice case.classes
 HasCase d leaf choice (UnknownSteps case) = IsCaseOf d leaf choice case.classes
 

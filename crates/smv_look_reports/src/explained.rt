@@ -11,17 +11,19 @@ ghost use Rattle.smv_look_reports.specs.Leans.{true_lines};
 ghost use Rattle.smv_report_lines.specs.Generated.{proved_line};
 ghost use Rattle.smv_unit_tables.specs.Units.{AreNoted};
 
+use crate::allowed::push_allowed;
 use crate::cones::push_unknown;
 use crate::leans::push_true;
 use crate::paths::push_path;
+use smv_core::Seq;
 use smv_core::flat::{Case, Choice, Design, Element, Leaf, Timed, Unit};
 use smv_look_lines::{push_choice, target_of};
-use smv_problem::{AbsState, Plan, UnitResult, Verdict};
+use smv_problem::{AbsState, AbsValue, Plan, UnitResult, Verdict};
 use smv_report_lines::push_number;
 use smv_unit_tables::units::UnitTable;
 use std::alloc::{AllocError, Global};
 
-/// A unit of a design, with its leaf, its choice, the times of its uses and what is decided of it.
+/// A unit of a design, with its leaf, its choice, the times of its uses, what is decided of it and what its map allows.
 #[derive(Clone, Copy)]
 pub(crate) struct Decided<'a> {
     pub design: &'a Design,
@@ -31,9 +33,10 @@ pub(crate) struct Decided<'a> {
     pub choice: &'a Choice,
     pub times: &'a Timed,
     pub told: &'a UnitResult,
+    pub allowed: &'a [AbsValue],
 }
 
-// Writes the path of a unit that is false, and what its proof uses.
+// Writes the path of a unit that is false, what its map allows, and what its proof uses.
 fn push_false(
     out: &mut Vec<u8>,
     alloc: Global,
@@ -42,7 +45,7 @@ fn push_false(
     elements: &[Element],
     path: &[AbsState],
 ) -> Result<(), AllocError>
-    ensures { OnOk result (out.new.items ≡ out.old.items ++ false_lines unit.now.design.now unit.now.unit unit.now.choice.now unit.now.times.now unit.now.told.now case.now elements.now path.now) }
+    ensures { OnOk result (out.new.items ≡ out.old.items ++ false_lines unit.now.design.now unit.now.unit unit.now.choice.now unit.now.times.now unit.now.told.now unit.now.allowed.now case.now elements.now path.now) }
 {
     let design = unit.design;
     let target = target_of(alloc, design, case.classes.as_slice(), unit.unit)?;
@@ -58,6 +61,7 @@ fn push_false(
         elements,
         path,
     )?;
+    push_allowed(out, design, target.as_ref(), unit.allowed)?;
     push_choice(out, design, unit.choice, unit.times)
 }
 
@@ -121,7 +125,7 @@ fn push_unit(
     requires part { IsPart unit.now.design.now unit.now.leaf.now unit.now.choice.now }
     requires case { HasCase unit.now.design.now unit.now.leaf.now unit.now.choice.now unit.now.told.now.verdict }
     requires noted { AreNoted unit.now.design.now unit.now.units.now noted.now }
-    ensures { OnOk result (out.new.items ≡ out.old.items ++ unit_lines (record { design = unit.now.design.now; units = unit.now.units.now }) results.now unit.now.unit unit.now.leaf.now unit.now.choice.now unit.now.times.now unit.now.told.now) }
+    ensures { OnOk result (out.new.items ≡ out.old.items ++ unit_lines (record { design = unit.now.design.now; units = unit.now.units.now }) results.now unit.now.unit unit.now.leaf.now unit.now.choice.now unit.now.times.now unit.now.told.now unit.now.allowed.now) }
 {
     match &unit.told.verdict {
         Verdict::True => push_leaning(out, alloc, unit, noted, results),
@@ -169,6 +173,7 @@ fn push_units(
     plan: &Plan,
     noted: &UnitTable,
     results: &[UnitResult],
+    allowed: &[Seq<AbsValue>],
 ) -> Result<(), AllocError>
     requires units { plan.now.units ≡ units_of plan.now.design }
     requires leaves { length plan.now.leaves ≡ length plan.now.units }
@@ -177,8 +182,9 @@ fn push_units(
     requires results { length results.now ≡ length plan.now.units }
     requires parts { AreParts plan.now }
     requires cases { HaveCases plan.now results.now }
+    requires allowed { length allowed.now ≡ length plan.now.units }
     requires noted { AreNoted plan.now.design plan.now.units noted.now }
-    ensures { OnOk result (out.new.items ≡ out.old.items ++ units_lines plan.now results.now) }
+    ensures { OnOk result (out.new.items ≡ out.old.items ++ units_lines plan.now results.now allowed.now) }
 {
     let units = plan.units.as_slice();
     let leaves = plan.leaves.as_slice();
@@ -193,17 +199,19 @@ fn push_units(
             choice: &choices[u],
             times: &timed[u],
             told: &results[u],
+            allowed: allowed[u].as_slice(),
         };
         push_unit(out, alloc, &unit, noted, results)?;
     }
     Ok(())
 }
 
-/// What `explain` writes of the results of a plan's units: of a false one its path as a table, with what its proof uses; of an unknown one the bits of its case, and the elements that have most of them; of a true one the units that its proof uses and that are not true; and how many are true.
+/// What `explain` writes of the results of a plan's units, where so much is allowed by their maps: of a false one its path as a table, with what its map allows at the end of it and what its proof uses; of an unknown one the bits of its case, and the elements that have most of them; of a true one the units that its proof uses and that are not true; and how many are true.
 pub fn explain_lines(
     alloc: Global,
     plan: &Plan,
     results: &[UnitResult],
+    allowed: &[Seq<AbsValue>],
 ) -> Result<Vec<u8>, AllocError>
     requires units { plan.now.units ≡ units_of plan.now.design }
     requires leaves { length plan.now.leaves ≡ length plan.now.units }
@@ -212,11 +220,12 @@ pub fn explain_lines(
     requires results { length results.now ≡ length plan.now.units }
     requires parts { AreParts plan.now }
     requires cases { HaveCases plan.now results.now }
-    ensures { IfOk result (λ lines. lines.items ≡ spec.explain_lines plan.now (record { design = plan.now.design; units = results.now })) }
+    requires allowed { length allowed.now ≡ length plan.now.units }
+    ensures { IfOk result (λ lines. lines.items ≡ spec.explain_lines plan.now (record { design = plan.now.design; units = results.now }) allowed.now) }
 {
     let noted = UnitTable::of(alloc, &plan.design, plan.units.as_slice())?;
     let mut out = Vec::new(alloc);
-    push_units(&mut out, alloc, plan, &noted, results)?;
+    push_units(&mut out, alloc, plan, &noted, results, allowed)?;
     push_proved(&mut out, &plan.design, results)?;
     Ok(out)
 }

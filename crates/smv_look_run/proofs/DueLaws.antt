@@ -22,8 +22,9 @@ use Rattle.smv_look_sets.specs.Sought.{front}
 use Rattle.smv_look_run.specs.declared.Status.{Status}
 use Rattle.smv_look_run.specs.declared.Status.TheVariants.{Written, Refused}
 use Rattle.smv_look_run.specs.Cases.{IsShownAt}
+use Rattle.smv_look_run.specs.Models.{IsModelledAt}
 use Rattle.smv_look_run.specs.Sets.{AreSetsAt}
-use Rattle.smv_look_run.specs.Dues.{IsDue, fronted, lint_status, linted, listed, name_asked, refusal_text, shown, sought, unnamed}
+use Rattle.smv_look_run.specs.Dues.{IsDue, IsRefusal, fronted, lint_status, linted, listed, modelled, name_asked, shown, sought, unnamed}
 use Rattle.smv_look_run.proofs.Endings.{due_fault}
 
 -- the fault that a call answers
@@ -63,7 +64,12 @@ module _ (asked : Query) (text : List ℕ) (plan : Plan) (has : HasPlan text pla
         AreSetsAt plan u case budgets due answer → IsDue asked text due answer
     due_sought case budgets is place u due answer found at there = rw is (sought name case budgets plan u has (found_among plan name shown_name units same bytes place (Some u) found at) there)
 
+    -- the circuit of its case
+    pub due_model : (number : ℕ) → asked ≡ query.Aiger name number → (place : Option ℕ) (u : ℕ) (due : Status) (answer : List ℕ) → place ≡ place_of (is_named plan.design shown_name) units → place ≡ Some u → IsModelledAt plan u number due answer →
+        IsDue asked text due answer
+    due_model number is place u due answer found at there = rw is (modelled name number plan u has (found_among plan name shown_name units same bytes place (Some u) found at) there)
+
     -- no unit has it
-    pub due_unnamed : name_asked asked ≡ Some name → (place : Option ℕ) (due : Status) (answer : List ℕ) → place ≡ place_of (is_named plan.design shown_name) units → place ≡ None → due ≡ Refused → answer ≡ refusal_text asked text 26 0 → IsDue asked text due answer
+    pub due_unnamed : name_asked asked ≡ Some name → (place : Option ℕ) (due : Status) (answer : List ℕ) → place ≡ place_of (is_named plan.design shown_name) units → place ≡ None → due ≡ Refused → IsRefusal asked text 26 0 answer → IsDue asked text due answer
     due_unnamed about place due answer found none e f =
         due_fault asked text 26 0 due answer (unnamed name plan about has (found_among plan name shown_name units same bytes place None found none)) e f

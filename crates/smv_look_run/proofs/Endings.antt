@@ -13,6 +13,8 @@ use Rattle.law_answers.specs.Dues.{limit, too_long}
 use Rattle.smv_look_command.specs.declared.queries.Query.{Query}
 use Rattle.smv_look_lint.specs.Lines.{lint_lines}
 use Rattle.smv_look_reports.specs.Explained.{are_all_true}
+use Rattle.smv_look_explain.specs.Faults.{unshown_lines}
+use Rattle.smv_look_faults.specs.Explained.{IsExplained, unshown}
 use Rattle.smv_look_run.specs.declared.Status.{Status}
 use Rattle.smv_look_run.specs.declared.Status.TheVariants.{Written, Warned, NoCase, SomeFalse, SomeUnknown, Refused, Usage, ReadFault, WriteFault, OutOfMemory}
 use Rattle.smv_problem.specs.declared.report.Verdict.{Verdict}
@@ -20,8 +22,11 @@ use Rattle.smv_problem.specs.declared.report.Verdict.TheVariants.{True, False, U
 use Rattle.smv_look_sets.specs.declared.sought.Sought.{Sought}
 use Rattle.smv_look_sets.specs.declared.sought.Sought.TheVariants as found
 use Rattle.smv_look_run.specs.Cases.{IsShownAt, cone_status}
+use Rattle.smv_look_aiger.specs.declared.models.Model.{Model}
+use Rattle.smv_look_aiger.specs.declared.models.Model.TheVariants as model
+use Rattle.smv_look_run.specs.Models.{model_status}
 use Rattle.smv_look_run.specs.Sets.{AreSetsAt, sought_status, verdict_status}
-use Rattle.smv_look_run.specs.Dues.{Ends, Gave, IsDue, IsDueTo, IsFault, explained, faulty, fronted, lint_status, linted, listed, refusal_text, refused, report_status, reported, shown, sought, usage_line}
+use Rattle.smv_look_run.specs.Dues.{Ends, Gave, IsDue, IsDueTo, IsFault, IsRefusal, faulty, fronted, lint_status, linted, listed, modelled, refused, report_status, reported, shown, sought, usage_line}
 
 -- ---- what the source gave
 
@@ -69,14 +74,19 @@ of_sought (found.Sets sets) = refl
 of_sought (found.Open verdict) = of_verdict verdict
 of_sought (found.NoCase count) = refl
 
+of_model : (model : Model) → is_answered (model_status model) ≡ true
+of_model (model.File bytes) = refl
+of_model (model.NoCase count) = refl
+
 of_query : (asked : Query) (text : List ℕ) (due : Status) (answer : List ℕ) → IsDue asked text due answer → is_answered due ≡ true
 of_query _ text _ _ (listed plan has) = refl
 of_query _ text _ _ (shown name number plan u has first at) = ap is_answered at.status ∙ of_case _
 of_query _ text _ _ (linted tree plan spelled has) = of_lint (lint_lines text tree plan)
-of_query _ text _ _ (reported plan report has right) = of_report (are_all_true report.units)
+of_query _ text _ _ (reported plan report allowed has right each) = of_report (are_all_true report.units)
 of_query _ text _ _ (sought name case budgets plan u has first at) = ap is_answered at.status ∙ of_sought at.sought
 of_query _ text _ _ (fronted plan has) = refl
-of_query asked text _ _ (refused number at fault) = refl
+of_query _ text _ _ (modelled name number plan u has first at) = ap is_answered at.status ∙ of_model at.model
+of_query asked text _ _ (refused number at fault lines) = refl
 
 answers : (asked : Option Query) (text : List ℕ) (due : Status) (answer : List ℕ) → IsDueTo asked text due answer → is_answered due ≡ true
 answers None text due answer is = ap is_answered is.0
@@ -115,19 +125,22 @@ pub line_31 : (text : List ℕ) → codes "fault 31 at line 1 column 1" ++ 10 �
 unfolding digits
 line_31 text = refl
 
-pub explained_31 : (text : List ℕ) → (codes "fault 31 at line 1 column 1" ++ 10 ∷ []) ++ codes "  | the text has more than 1,048,576 bytes" ++ 10 ∷ [] ≡ explained text 31 0
+unshown_31 : (text : List ℕ) → (codes "fault 31 at line 1 column 1" ++ 10 ∷ []) ++ codes "  | the text has more than 1,048,576 bytes" ++ 10 ∷ [] ≡ unshown_lines text 31 0
 unfolding digits
-explained_31 text = refl
+unshown_31 text = refl
 
-pub due_fault : (asked : Query) (text : List ℕ) (number at : ℕ) (due : Status) (answer : List ℕ) → IsFault asked text number at → due ≡ Refused → answer ≡ refusal_text asked text number at → IsDue asked text due answer
-due_fault asked text number at due answer is e f = rw e (rw f (refused number at is))
+pub explained_31 : (text : List ℕ) → IsExplained text 31 0 ((codes "fault 31 at line 1 column 1" ++ 10 ∷ []) ++ codes "  | the text has more than 1,048,576 bytes" ++ 10 ∷ [])
+explained_31 text = subst (IsExplained text 31 0) (sym (unshown_31 text)) (unshown refl)
+
+pub due_fault : (asked : Query) (text : List ℕ) (number at : ℕ) (due : Status) (answer : List ℕ) → IsFault asked text number at → due ≡ Refused → IsRefusal asked text number at answer → IsDue asked text due answer
+due_fault asked text number at due answer is e lines = rw e (refused number at is lines)
 
 -- a text that is too long
 pub is_long : (asked : Query) (text : List ℕ) → limit < length text → IsFault asked text 31 0
 is_long asked text long = faulty (record { number = 31; at = 0 }) (λ command decides. too_long long)
 
-pub due_long : (asked : Query) (text answer : List ℕ) → limit < length text → ((t : List ℕ) → answer ≡ refusal_text asked t 31 0) → IsDue asked text Refused answer
-due_long asked text answer long e = due_fault asked text 31 0 Refused answer (is_long asked text long) refl (e text)
+pub due_long : (asked : Query) (text answer : List ℕ) → limit < length text → ((t : List ℕ) → IsRefusal asked t 31 0 answer) → IsDue asked text Refused answer
+due_long asked text answer long lines = due_fault asked text 31 0 Refused answer (is_long asked text long) refl (lines text)
 
 pub due_usage : (asked : Option Query) (text answer : List ℕ) → asked ≡ None → answer ≡ usage_line → IsDueTo asked text Usage answer
 due_usage asked text answer none is = rw none (refl, is)

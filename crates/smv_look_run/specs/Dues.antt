@@ -1,9 +1,10 @@
 -- What a call owes: its status and its whole answer.
-use Rattle.std.specs.Prelude.{◌≡◌, ℕ, List, [], ◌∷◌, ◌++◌, codes, Option, Some, None, Bool, true, false, IfSome, if◌then◌else◌, nat_eq}
+use Rattle.std.specs.Prelude.{◌≡◌, ℕ, List, [], ◌∷◌, ◌++◌, codes, Option, Some, None, Bool, true, false, IfSome}
 use Rattle.std.specs.Io.KnownBytes.{Appends, Keeps}
 use Rattle.smv_core.specs.declared.fault.Fault.{Fault}
 use Rattle.smv_core.specs.declared.tree.Text.{Text}
 use Rattle.smv_parse.specs.Spelling.{SpellsText}
+use Rattle.smv_problem.specs.declared.problem.AbsValue.{AbsValue}
 use Rattle.smv_problem.specs.declared.report.Budgets.{Budgets}
 use Rattle.smv_problem.specs.declared.report.Plan.{Plan}
 use Rattle.smv_problem.specs.declared.report.Report.{Report}
@@ -11,6 +12,7 @@ use Rattle.smv_io.specs.Transfers.{TookFront}
 use Rattle.smv_report.specs.Lines.{fault_text}
 use Rattle.law_obligations.specs.Outlines.{place_of}
 use Rattle.law_answers.specs.Dues.{default_bits, default_nodes, default_steps}
+use Rattle.law_valid_texts.specs.Faultless.{script_of_plan}
 use Rattle.law_valid_texts.specs.Reports.{IsRightReport}
 use Rattle.smv_read_design.specs.Answers.{HasPlan, IsFaultOf}
 use Rattle.smv_read_design.specs.Named.{is_named}
@@ -18,12 +20,14 @@ use Rattle.smv_look_command.specs.declared.queries.Query.{Query}
 use Rattle.smv_look_command.specs.declared.queries.Query.TheVariants as query
 use Rattle.smv_look_lines.specs.Lists.{list_lines}
 use Rattle.smv_look_lint.specs.Lines.{lint_lines}
+use Rattle.smv_look_reports.specs.Allowed.{AreAllowedByAll}
 use Rattle.smv_look_reports.specs.Explained.{are_all_true, explain_lines}
 use Rattle.smv_look_sets.specs.Sought.{front}
-use Rattle.smv_look_explain.specs.Faults.{fault_lines, unshown_lines}
+use Rattle.smv_look_faults.specs.Explained.{IsExplained}
 use Rattle.smv_look_run.specs.declared.Status.{Status}
 use Rattle.smv_look_run.specs.declared.Status.TheVariants.{Written, Warned, NoCase, SomeFalse, SomeUnknown, Refused, Usage, ReadFault, WriteFault, OutOfMemory}
 use Rattle.smv_look_run.specs.Cases.{IsShownAt}
+use Rattle.smv_look_run.specs.Models.{IsModelledAt}
 use Rattle.smv_look_run.specs.Sets.{AreSetsAt}
 
 -- the exit status of the program
@@ -43,6 +47,7 @@ number_of OutOfMemory = 7
 abbrev pub name_asked : Query → Option (List ℕ)
 name_asked (query.Cone name number) = Some name
 name_asked (query.Sets name case budgets) = Some name
+name_asked (query.Aiger name number) = Some name
 name_asked _ = None
 
 -- the first fault of a text, which is that of each command that decides units; or that no unit has the name that is asked for
@@ -50,14 +55,10 @@ pub data IsFault : Query → List ℕ → ℕ → ℕ → Type 0 where
   faulty : {asked : Query} {text : List ℕ} (fault : Fault) → IsFaultOf text fault → IsFault asked text fault.number fault.at
   unnamed : {asked : Query} {text : List ℕ} (name : List ℕ) (plan : Plan) → name_asked asked ≡ Some name → HasPlan text plan → place_of (is_named plan.design name) plan.units ≡ None → IsFault asked text 26 0
 
--- the lines of a fault with the line of the text where it stands, which is not shown where the text is too long
-abbrev pub explained : List ℕ → ℕ → ℕ → List ℕ
-explained text number at = if nat_eq number 31 then unshown_lines text number at else fault_lines text number at
-
--- the lines of a fault under a query
-abbrev pub refusal_text : Query → List ℕ → ℕ → ℕ → List ℕ
-refusal_text query.Explain text number at = explained text number at
-refusal_text _ text number at = fault_text text number at
+-- these are the lines of a fault under a query
+abbrev pub IsRefusal : Query → List ℕ → ℕ → ℕ → List ℕ → Type 0
+IsRefusal query.Explain text number at answer = IsExplained text number at answer
+IsRefusal _ text number at answer = answer ≡ fault_text text number at
 
 -- the status under which these warnings are written
 abbrev pub lint_status : List ℕ → Status
@@ -75,15 +76,17 @@ pub data IsDue : Query → List ℕ → Status → List ℕ → Type 0 where
   shown : {text : List ℕ} {due : Status} {answer : List ℕ} (name : List ℕ) (number : ℕ) (plan : Plan) (u : ℕ) → HasPlan text plan → place_of (is_named plan.design name) plan.units ≡ Some u → IsShownAt plan u number due answer →
       IsDue (query.Cone name number) text due answer
   linted : {text : List ℕ} (tree : Text) (plan : Plan) → SpellsText text tree → HasPlan text plan → IsDue query.Lint text (lint_status (lint_lines text tree plan)) (lint_lines text tree plan)
-  reported : {text : List ℕ} (plan : Plan) (report : Report) → HasPlan text plan → IsRightReport text default_bits default_nodes default_steps report →
-      IsDue query.Explain text (report_status (are_all_true report.units)) (explain_lines plan report)
+  reported : {text : List ℕ} (plan : Plan) (report : Report) (allowed : List (List AbsValue)) → HasPlan text plan → IsRightReport text default_bits default_nodes default_steps report → AreAllowedByAll (script_of_plan plan) report.units allowed →
+      IsDue query.Explain text (report_status (are_all_true report.units)) (explain_lines plan report allowed)
   sought : {text : List ℕ} {due : Status} {answer : List ℕ} (name : List ℕ) (case : Option ℕ) (budgets : Budgets) (plan : Plan) (u : ℕ) → HasPlan text plan → place_of (is_named plan.design name) plan.units ≡ Some u → AreSetsAt plan u case budgets due answer →
       IsDue (query.Sets name case budgets) text due answer
   fronted : {text : List ℕ} (plan : Plan) → HasPlan text plan → IsDue query.Front text Written (front text)
-  refused : {asked : Query} {text : List ℕ} (number at : ℕ) → IsFault asked text number at → IsDue asked text Refused (refusal_text asked text number at)
+  modelled : {text : List ℕ} {due : Status} {answer : List ℕ} (name : List ℕ) (number : ℕ) (plan : Plan) (u : ℕ) → HasPlan text plan → place_of (is_named plan.design name) plan.units ≡ Some u → IsModelledAt plan u number due answer →
+      IsDue (query.Aiger name number) text due answer
+  refused : {asked : Query} {text answer : List ℕ} (number at : ℕ) → IsFault asked text number at → IsRefusal asked text number at answer → IsDue asked text Refused answer
 
 abbrev pub usage_line : List ℕ
-usage_line = codes "usage: smv_look list|cone NAME [CASE]|lint|explain|sets NAME [CASE]|front < TEXT" ++ 10 ∷ []
+usage_line = codes "usage: smv_look list|cone NAME [CASE]|lint|explain|sets NAME [CASE]|front|aiger NAME [CASE] < TEXT" ++ 10 ∷ []
 
 -- the same for words, which may be no query
 abbrev pub IsDueTo : Option Query → List ℕ → Status → List ℕ → Type 0

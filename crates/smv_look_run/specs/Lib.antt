@@ -1,3 +1,4 @@
 pub mod Cases
 pub mod Dues
+pub mod Models
 pub mod Sets

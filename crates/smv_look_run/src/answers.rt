@@ -1,5 +1,5 @@
 // The answer to a query and its text.
-ghost use Rattle.std.specs.Prelude.{◌≡◌, ◌≤◌, ◌<◌, ◌-◌, length, option_copied, slice_get, IfOk};
+ghost use Rattle.std.specs.Prelude.{◌≡◌, ◌≤◌, ◌<◌, ◌-◌, ℕ, List, length, option_copied, slice_get, IfOk};
 ghost use Rattle.law_answers.specs.Dues.{limit};
 ghost use Rattle.law_obligations.specs.LeafCases.{leaf_cases};
 ghost use Rattle.law_obligations.specs.Units.{units_of};
@@ -10,11 +10,12 @@ ghost use Rattle.smv_look_command.specs.Queries.{IsInRange};
 ghost use Rattle.smv_look_command.specs.declared.queries.Query.TheVariants as variant;
 ghost use Rattle.smv_read_design.specs.Answers.{HasPlan};
 ghost use Rattle.smv_look_run.specs.Cases.{IsShownAt, case_numbered, case_text, cone_status, cone_text};
-ghost use Rattle.smv_look_run.specs.Dues.{IsDue, explained, lint_status, refusal_text};
+ghost use Rattle.smv_look_run.specs.Dues.{IsDue, IsRefusal, lint_status};
 
-use crate::Status;
+use crate::models::modelled;
 use crate::reports::reported;
 use crate::sets::{fronted, sought};
+use crate::{Status, too_long};
 use law_valid_texts::parts_of_texts::cases_are_of_leaves;
 use smv_cases::abs_types;
 use smv_cases::calls::cases;
@@ -24,7 +25,7 @@ use smv_cone::cone;
 use smv_core::flat::{Case, Choice, Design, Leaf, Unit};
 use smv_core::{Fault, Name, Refusal};
 use smv_look_command::Query;
-use smv_look_explain::{fault_lines, unshown_lines};
+use smv_look_faults::explained;
 use smv_look_lines::{Look, cone_lines, count_line, list_lines};
 use smv_look_lint::lint_lines;
 use smv_parse::parse;
@@ -49,9 +50,19 @@ pub(crate) fn answer_to(alloc: Global, query: &Query, text: &[u8]) -> Result<Ans
     ensures { IfOk result (λ answer. IsDue query.now text.now answer.status answer.bytes.items) }
 {
     if text.len() > LIMIT {
-        return refused(alloc, query, text, Fault { number: 31, at: 0 });
+        return long(alloc, query);
     }
     looked(alloc, query, text)
+}
+
+// The answer to a text that is too long.
+fn long(alloc: Global, query: &Query) -> Result<Answer, AllocError>
+    ensures status { IfOk result (λ answer. answer.status ≡ Status.Refused) }
+    ensures bytes { IfOk result (λ answer. (text : List ℕ) → IsRefusal query.now text 31 0 answer.bytes.items) }
+{
+    let bytes = Vec::from_slice(alloc, too_long(query))?;
+    let status = Status::Refused;
+    Ok(Answer { status, bytes })
 }
 
 // The same of a text that is short enough.
@@ -87,6 +98,7 @@ fn told(alloc: Global, query: &Query, text: &[u8], plan: &Plan) -> Result<Answer
             budgets,
         } => sought(alloc, query, text, plan, name, *case, *budgets),
         Query::Front => fronted(alloc, query, text, plan),
+        Query::Aiger { name, case } => modelled(alloc, query, text, plan, name, *case),
     }
 }
 
@@ -138,6 +150,7 @@ fn named(
     name: &Name,
     case: usize,
 ) -> Result<Answer, AllocError>
+    requires short { length text.now ≤ limit }
     requires asks { query.now ≡ variant.Cone name.now case }
     requires plan { HasPlan text.now plan.now }
     requires whole { IsWholePlan plan.now }
@@ -277,20 +290,10 @@ fn of_case(
     }
 }
 
-// The lines of a fault with the line of the text where it stands.
-fn explained(alloc: Global, text: &[u8], fault: Fault) -> Result<Vec<u8>, AllocError>
-    ensures { IfOk result (λ lines. lines.items ≡ explained text.now fault.number fault.at) }
-{
-    if fault.number == 31 {
-        unshown_lines(alloc, text, fault)
-    } else {
-        fault_lines(alloc, text, fault)
-    }
-}
-
 // The lines of a fault under a query.
 fn refusal(alloc: Global, query: &Query, text: &[u8], fault: Fault) -> Result<Vec<u8>, AllocError>
-    ensures { IfOk result (λ lines. lines.items ≡ refusal_text query.now text.now fault.number fault.at) }
+    requires { length text.now ≤ limit }
+    ensures { IfOk result (λ lines. IsRefusal query.now text.now fault.number fault.at lines.items) }
 {
     match query {
         Query::List => fault_line(alloc, text, fault),
@@ -302,6 +305,7 @@ fn refusal(alloc: Global, query: &Query, text: &[u8], fault: Fault) -> Result<Ve
             budgets: _,
         } => fault_line(alloc, text, fault),
         Query::Front => fault_line(alloc, text, fault),
+        Query::Aiger { name: _, case: _ } => fault_line(alloc, text, fault),
         Query::Explain => explained(alloc, text, fault),
     }
 }
@@ -313,8 +317,9 @@ pub(crate) fn refused(
     text: &[u8],
     fault: Fault,
 ) -> Result<Answer, AllocError>
+    requires { length text.now ≤ limit }
     ensures status { IfOk result (λ answer. answer.status ≡ Status.Refused) }
-    ensures bytes { IfOk result (λ answer. answer.bytes.items ≡ refusal_text query.now text.now fault.number fault.at) }
+    ensures bytes { IfOk result (λ answer. IsRefusal query.now text.now fault.number fault.at answer.bytes.items) }
 {
     let bytes = refusal(alloc, query, text, fault)?;
     let status = Status::Refused;

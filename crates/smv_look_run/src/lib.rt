@@ -1,6 +1,6 @@
 //! The call of the program `smv_look`: from its words and the bytes of a text to the lines that the words ask for, and a status.
 //!
-//! For the program, which hands over its streams. `specs/Dues` says which answer is due and how a call ends, `specs/Cases` what is shown of a case, `specs/Sets` what is answered of sets; the lines are those of `smv_look_lines` and of the crates beside it. `answers`, `sets` and `reports` make them, the last where units are decided.
+//! For the program, which hands over its streams. `specs/Dues` says which answer is due and how a call ends, `specs/Cases` what is shown of a case, `specs/Sets` and `specs/Models` what is answered of sets and circuits; the lines are those of `smv_look_lines` and of the crates beside it. `answers`, `sets`, `models` and `reports` make them, the last where units are decided.
 #![tactic(auto)]
 
 ghost use Rattle.std.specs.Prelude.{◌≡◌, ◌≢◌, ◌⊎◌, List, ℕ, map, None, Some};
@@ -9,9 +9,10 @@ ghost use Rattle.std.specs.String.{string_bytes};
 ghost use Rattle.smv_io.specs.Causes.{Rose};
 ghost use Rattle.smv_io.specs.Transfers.{TookFront};
 ghost use Rattle.smv_look_command.specs.Queries.{IsInRange, query_of};
-ghost use Rattle.smv_look_run.specs.Dues.{Ends, Gave, number_of, refusal_text};
+ghost use Rattle.smv_look_run.specs.Dues.{Ends, Gave, IsRefusal, number_of};
 
 mod answers;
+mod models;
 mod reports;
 mod sets;
 
@@ -75,7 +76,7 @@ const TOO_LONG_EXPLAINED: &[u8] =
     b"fault 31 at line 1 column 1\n  | the text has more than 1,048,576 bytes\n";
 
 const USAGE: &[u8] =
-    b"usage: smv_look list|cone NAME [CASE]|lint|explain|sets NAME [CASE]|front < TEXT\n";
+    b"usage: smv_look list|cone NAME [CASE]|lint|explain|sets NAME [CASE]|front|aiger NAME [CASE] < TEXT\n";
 
 /// Reads a text from the source, and writes what the words ask of it to the sink.
 ///
@@ -126,9 +127,9 @@ fn asked<S: Source, K: Sink>(alloc: Global, query: &Query, source: &mut S, sink:
     }
 }
 
-// The answer to a text that is too long.
-fn too_long(query: &Query) -> &'static [u8]
-    ensures { (text : List ℕ) → result.now ≡ refusal_text query.now text 31 0 }
+/// The answer to a text that is too long.
+pub(crate) fn too_long(query: &Query) -> &'static [u8]
+    ensures { (text : List ℕ) → IsRefusal query.now text 31 0 result.now }
 {
     match query {
         Query::List => TOO_LONG,
@@ -140,6 +141,7 @@ fn too_long(query: &Query) -> &'static [u8]
             budgets: _,
         } => TOO_LONG,
         Query::Front => TOO_LONG,
+        Query::Aiger { name: _, case: _ } => TOO_LONG,
         Query::Explain => TOO_LONG_EXPLAINED,
     }
 }

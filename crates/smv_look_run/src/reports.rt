@@ -9,7 +9,7 @@ use crate::Status;
 use crate::answers::Answer;
 use smv_bits::Bits;
 use smv_look_command::Query;
-use smv_look_reports::{are_all_true, explain_lines, right_results_have_cases};
+use smv_look_reports::{allowed_by_all, are_all_true, explain_lines, right_results_have_cases};
 use smv_plan_reports::units::results;
 use smv_problem::{Budgets, Plan};
 use std::alloc::{AllocError, Global};
@@ -44,7 +44,9 @@ pub(crate) fn reported(
         steps: 1_000,
     };
     let decided = results(alloc, plan, Bits::Near, budgets)?;
-    let bytes = explain_lines(alloc, plan, decided.as_slice())?;
-    let status = report_status(are_all_true(decided.as_slice()));
+    let told = decided.as_slice();
+    let allowed = allowed_by_all(alloc, plan, told)?;
+    let bytes = explain_lines(alloc, plan, told, allowed.as_slice())?;
+    let status = report_status(are_all_true(told));
     Ok(Answer { status, bytes })
 }

@@ -1,5 +1,6 @@
 // The answers to what is asked of sets, and of what stands before them in a document.
 ghost use Rattle.std.specs.Prelude.{◌≡◌, ◌<◌, ◌≤◌, length, IfOk};
+ghost use Rattle.law_answers.specs.Dues.{limit};
 ghost use Rattle.law_valid_texts.specs.Rooms.{IsWholePlan};
 ghost use Rattle.smv_look_command.specs.declared.queries.Query.TheVariants as variant;
 ghost use Rattle.smv_read_design.specs.Answers.{HasPlan};
@@ -25,6 +26,7 @@ pub(crate) fn sought(
     case: Option<usize>,
     budgets: Budgets,
 ) -> Result<Answer, AllocError>
+    requires short { length text.now ≤ limit }
     requires asks { query.now ≡ variant.Sets name.now case budgets }
     requires plan { HasPlan text.now plan.now }
     requires whole { IsWholePlan plan.now }

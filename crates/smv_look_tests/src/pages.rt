@@ -5,6 +5,54 @@ use std::test::Fail;
 
 const ROWS_1: &[Row] = &[
     (
+        "explain",
+        "module main() {\n  x : boolean;\n  next(x) = ~x;\n}\n",
+        3,
+        "fault 5 at line 3 column 11\n  |   next(x) = ~x;\n  |           ^ after this token no text can go on\n  | here may stand: :=\n",
+    ),
+    (
+        "explain",
+        "module main() {\n  x : {idle, busy};\n  y : {busy, done};\n}\n",
+        3,
+        "fault 8 at line 3 column 8\n  |   y : {busy, done};\n  |        ^ a name is declared twice\n  |   x : {idle, busy};\n  |              ^ declared first here, at line 2 column 14\n",
+    ),
+    (
+        "explain",
+        "module Main() { x : boolean; }\n",
+        3,
+        "fault 9 at line 1 column 1\n  | module Main() { x : boolean; }\n  | ^ there is no module `main`\n  | module Main() { x : boolean; }\n  |        ^ no module has an instance of this one, at line 1 column 8\n",
+    ),
+    (
+        "explain",
+        "module stage(a) { input a : boolean; next_stage : stage(a); }\nmodule main() { x : boolean; s : stage(x); }\n",
+        3,
+        "fault 10 at line 1 column 51\n  | module stage(a) { input a : boolean; next_stage : stage(a); }\n  |                                                   ^ a module contains itself\n  | module stage(a) { input a : boolean; next_stage : stage(a); }\n  |        ^ in which the instance stands, at line 1 column 8\n",
+    ),
+    (
+        "explain",
+        "module main() {\n  a, b : boolean;\n  x : 0..2;\n  if (a) next(x) := 1;\n  if (b) next(x) := 2;\n}\n",
+        3,
+        "fault 15 at line 5 column 10\n  |   if (b) next(x) := 2;\n  |          ^ two assignments of one signal conflict\n  |   if (a) next(x) := 1;\n  |          ^ the other assignment is here, at line 4 column 10\n",
+    ),
+    (
+        "explain",
+        "module main() {\n  x : boolean;\n  init(x) := 0;\n  x := ~x;\n}\n",
+        3,
+        "fault 16 at line 4 column 3\n  |   x := ~x;\n  |   ^ a signal has a value of now and `init` or `next` besides\n  |   init(x) := 0;\n  |   ^ the other assignment is here, at line 3 column 3\n",
+    ),
+    (
+        "explain",
+        "module main() {\n  a, b : boolean;\n  a := ~b;\n  b := a;\n}\n",
+        3,
+        "fault 18 at line 4 column 3\n  |   b := a;\n  |   ^ a signal reads itself without a delay\n  |   b := a;\n  |        ^ which reads this, at line 4 column 8\n  |   a := ~b;\n  |         ^ which reads this, at line 3 column 9\n",
+    ),
+    (
+        "explain",
+        "module main() {\n  x : boolean;\n  p : assert G x;\n  q : assert G x;\n  using q prove p;\n  using (q) prove p;\n}\n",
+        3,
+        "fault 27 at line 6 column 19\n  |   using (q) prove p;\n  |                   ^ something is chosen twice\n  |   using q prove p;\n  |                 ^ chosen first here, at line 5 column 17\n",
+    ),
+    (
         "list",
         "scalarset WORD undefined;\nscalarset REG undefined;\nmodule main() {\n  issue : boolean;\n  src, dst : REG;\n  reg : array REG of WORD;\n  f : array WORD of WORD;\n  opa, alu : WORD;\n  ex : struct { valid : boolean; dst : REG; val : WORD; };\n\n  forall (w in WORD) next(f[w]) := f[w];\n  opa := reg[src];\n  init(ex.valid) := 0;\n  next(ex.valid) := issue;\n  next(ex.dst) := dst;\n  next(ex.val) := opa;\n  alu := f[ex.val];\n  if (ex.valid) next(reg[ex.dst]) := alu;\n\n  abstract r : array REG of WORD;\n  abstract operand, result : WORD;\n  layer arch : {\n    operand := r[src];\n    result := f[operand];\n    forall (k in REG) init(r[k]) := reg[k];\n    if (issue) next(r[dst]) := result;\n    if (issue) opa := operand;\n  }\n  forall (j in REG) forall (c in WORD)\n    subcase opa1[j][c] of opa//arch for src = j, r[src] = c;\n}\n",
         0,
@@ -22,6 +70,14 @@ const ROWS_1: &[Row] = &[
         0,
         "opa//arch: case 1 of 1, bits 13\n case #0, #0\n issue: bits 1, free\n src: bits 1, free\n dst: bits 1, free\n reg[#0]: bits 1, base, state\n f[#0]: bits 1, base, state\n opa: bits 1, base, combinational, target\n alu: bits 1, base, combinational\n ex.valid: bits 1, base, state\n ex.dst: bits 1, base, state\n ex.val: bits 1, base, state\n r[#0]: bits 1, layer arch, state\n operand: bits 1, layer arch, combinational\n result: bits 1, layer arch, combinational\n",
     ),
+];
+
+#[test]
+fn looks_are_those_of_the_pages_1(rt: HostRuntime) -> Result<(), Fail> {
+    all_are_answered(rt.alloc(), ROWS_1)
+}
+
+const ROWS_2: &[Row] = &[
     (
         "cone opa//arch 2",
         "scalarset WORD undefined;\nscalarset REG undefined;\nmodule main() {\n  issue : boolean;\n  src, dst : REG;\n  reg : array REG of WORD;\n  f : array WORD of WORD;\n  opa, alu : WORD;\n  ex : struct { valid : boolean; dst : REG; val : WORD; };\n\n  forall (w in WORD) next(f[w]) := f[w];\n  opa := reg[src];\n  init(ex.valid) := 0;\n  next(ex.valid) := issue;\n  next(ex.dst) := dst;\n  next(ex.val) := opa;\n  alu := f[ex.val];\n  if (ex.valid) next(reg[ex.dst]) := alu;\n\n  abstract r : array REG of WORD;\n  abstract operand, result : WORD;\n  layer arch : {\n    operand := r[src];\n    result := f[operand];\n    forall (k in REG) init(r[k]) := reg[k];\n    if (issue) next(r[dst]) := result;\n    if (issue) opa := operand;\n  }\n  forall (j in REG) forall (c in WORD)\n    subcase opa1[j][c] of opa//arch for src = j, r[src] = c;\n}\n",
@@ -40,14 +96,12 @@ const ROWS_1: &[Row] = &[
         1,
         "walks at line 5 column 3: nothing reads it and no map is about it; declare it as an output if that is meant\npressed at line 5 column 10: nothing outside layers assigns it, so it is free; declare it as an input if that is meant\nseconds at line 7 column 20: 61 is not in 0..60, so nothing is ruled out here\nseconds at line 10 column 66: 60..90 is not within 0..60, so nothing is ruled out here\n",
     ),
-];
-
-#[test]
-fn looks_are_those_of_the_pages_1(rt: HostRuntime) -> Result<(), Fail> {
-    all_are_answered(rt.alloc(), ROWS_1)
-}
-
-const ROWS_2: &[Row] = &[
+    (
+        "lint",
+        "module main(go, n, sum) {\n  input go : boolean;\n  input n : 0..255;\n  input sum : 0..255;\n  v : array 0..3 of boolean;\n  slot : 0..3;\n  hit, over : boolean;\n  count, wrap, total : 0..7;\n  forall (i in 0..3) next(v[i]) := v[i];\n  slot := n < 4 ? n : 0;\n  hit := n < 4 & v[n] | v[n];\n  over := sum + n + 9 > 300;\n  if (go) next(wrap) := wrap + 1;\n  next(count) := count + 1;\n  if (0) next(total) := 7;\n  else if (go) next(total) := n - 3;\n  small : assert G (slot < 4 & ~hit & ~over & count + wrap + total < 22);\n}\n",
+        1,
+        "hit at line 11 column 27: by types and conditions this is within 0..255; as an index outside 0..3 it makes what is read Undefined\nover at line 12 column 11: types and conditions do not keep this sum up to 511; above that it is Undefined\ncount at line 14 column 18: by types and conditions this is within 1..8; where it is outside 0..7, nothing is ruled out\ntotal at line 15 column 7: this condition is made of constants alone, so it is the same at each time\ntotal at line 16 column 31: by types and conditions this is within 0..252; where it is outside 0..7, nothing is ruled out\n",
+    ),
     (
         "lint",
         "/* A bus arbiter for three clients with fixed priority: client 0 comes before 1, and 1 before 2. Who has the bus keeps it as\n   long as it asks; a bus that is free goes to the first that asks, at once.\n   `held` is the owner of the step before, by one bit for each client. The claims: the grants are disjoint (`alone`), no\n   client is granted that does not ask (`wanted`), the bus is not idle while somebody asks (`busy`), who has it keeps it\n   (`kept`), and it is not taken by a client while a more urgent one waits (`urgent`).\n   Nothing is promised to client 2: `priority_waits` shows how long it waits. */\nmodule main() {\n  asks, grant, held : array 0..2 of boolean;\n  free_bus : boolean;\n\n  free_bus := &[ ~(held[i] & asks[i]) : i in 0..2 ];\n  grant[0] := asks[0] & (held[0] | free_bus);\n  grant[1] := asks[1] & (held[1] | free_bus & ~asks[0]);\n  grant[2] := asks[2] & (held[2] | free_bus & ~asks[0] & ~asks[1]);\n  forall (i in 0..2) {\n    init(held[i]) := 0;\n    next(held[i]) := grant[i];\n  }\n\n  forall (i in 0..2) forall (j in 0..2) {\n    alone[i][j] : assert G (grant[i] & grant[j] -> i = j);\n    urgent[i][j] : assert G (i < j & asks[i] & grant[j] -> held[j]);\n  }\n  forall (i in 0..2) {\n    wanted[i] : assert G (grant[i] -> asks[i]);\n    kept[i] : assert G (held[i] & asks[i] -> grant[i]);\n  }\n  busy : assert G (|[ asks[i] : i in 0..2 ] -> |[ grant[i] : i in 0..2 ]);\n}\n",
@@ -68,15 +122,41 @@ const ROWS_2: &[Row] = &[
     ),
     (
         "explain",
+        "module main() {\n  x : {idle, busy};\n  y : {busy, done};\n}\n",
+        3,
+        "fault 8 at line 3 column 8\n  |   y : {busy, done};\n  |        ^ a name is declared twice\n  |   x : {idle, busy};\n  |              ^ declared first here, at line 2 column 14\n",
+    ),
+    (
+        "explain",
+        "module main() {\n  a, b, c : boolean;\n  a := b & c;\n  b := c;\n  c := a;\n}\n",
+        3,
+        "fault 18 at line 5 column 3\n  |   c := a;\n  |   ^ a signal reads itself without a delay\n  |   c := a;\n  |        ^ which reads this, at line 5 column 8\n  |   a := b & c;\n  |            ^ which reads this, at line 3 column 12\n",
+    ),
+];
+
+#[test]
+fn looks_are_those_of_the_pages_2(rt: HostRuntime) -> Result<(), Fail> {
+    all_are_answered(rt.alloc(), ROWS_2)
+}
+
+const ROWS_3: &[Row] = &[
+    (
+        "explain",
+        "module main() {\n  x : boolean;\n  next(x) = ~x;\n}\n",
+        3,
+        "fault 5 at line 3 column 11\n  |   next(x) = ~x;\n  |           ^ after this token no text can go on\n  | here may stand: :=\n",
+    ),
+    (
+        "explain",
         "scalarset WORD undefined;\nscalarset REG undefined;\nmodule main() {\n  issue : boolean;\n  src, dst : REG;\n  reg : array REG of WORD;\n  f : array WORD of WORD;\n  opa, alu : WORD;\n  ex : struct { valid : boolean; dst : REG; val : WORD; };\n\n  forall (w in WORD) next(f[w]) := f[w];\n  opa := reg[src];\n  init(ex.valid) := 0;\n  next(ex.valid) := issue;\n  next(ex.dst) := dst;\n  next(ex.val) := opa;\n  alu := f[ex.val];\n  if (ex.valid) next(reg[ex.dst]) := alu;\n\n  abstract r : array REG of WORD;\n  abstract operand, result : WORD;\n  layer arch : {\n    operand := r[src];\n    result := f[operand];\n    forall (k in REG) init(r[k]) := reg[k];\n    if (issue) next(r[dst]) := result;\n    if (issue) opa := operand;\n  }\n  forall (j in REG) forall (c in WORD)\n    subcase opa1[j][c] of opa//arch for src = j, r[src] = c;\n}\n",
         1,
-        "opa//arch: false at 1\n case #0, #0\n                    0   1\n issue              1   .\n src                *  #0\n dst               #0   .\n reg[#0]            *   .\n f[#0]             #0   .\n opa target        #0   *\n alu               #0   .\n ex.valid           0   1\n ex.dst            #0   .\n ex.val            #0   .\n r[#0] abstract     *  #0\n operand abstract  #0   .\n result abstract   #0   .\nproved 0 of 1\n",
+        "opa//arch: false at 1\n case #0, #0\n                    0   1\n issue              1   .\n src                *  #0\n dst               #0   .\n reg[#0]            *   .\n f[#0]             #0   .\n opa target        #0   *\n alu               #0   .\n ex.valid           0   1\n ex.dst            #0   .\n ex.val            #0   .\n r[#0] abstract     *  #0\n operand abstract  #0   .\n result abstract   #0   .\n the map allows #0\nproved 0 of 1\n",
     ),
     (
         "explain",
         "module main() {\n  go, stop, dark, run, lamp : boolean;\n  init(run) := 0;\n  next(run) := go & ~stop;\n  lamp := run & ~dark;\n\n  abstract wanted : boolean;\n  layer spec : {\n    init(wanted) := 0;\n    next(wanted) := go;\n    run := wanted;\n    lamp := wanted;\n  }\n  calm : assert G ~stop;\n  using (calm) prove run//spec;\n  using run//spec, dark//free prove lamp//spec;\n}\n",
         1,
-        "run//spec: true\n leans on calm, which is false\nlamp//spec: false at 1\n                  0  1\n go               1  0\n dark             0  1\n run              0  1\n lamp target      0  .\n wanted abstract  0  1\n use run//spec now\n free dark\ncalm: false at 0\n       0\n stop  1\nproved 1 of 3\n",
+        "run//spec: true\n leans on calm, which is false\nlamp//spec: false at 1\n                  0  1\n go               1  0\n dark             0  1\n run              0  1\n lamp target      0  .\n wanted abstract  0  1\n the map allows 1\n use run//spec now\n free dark\ncalm: false at 0\n       0\n stop  1\nproved 1 of 3\n",
     ),
     (
         "explain",
@@ -105,6 +185,6 @@ const ROWS_2: &[Row] = &[
 ];
 
 #[test]
-fn looks_are_those_of_the_pages_2(rt: HostRuntime) -> Result<(), Fail> {
-    all_are_answered(rt.alloc(), ROWS_2)
+fn looks_are_those_of_the_pages_3(rt: HostRuntime) -> Result<(), Fail> {
+    all_are_answered(rt.alloc(), ROWS_3)
 }

@@ -59,7 +59,28 @@ const ROWS: &[Row] = &[
         "explain",
         "module main() { x, y : boolean; x := 0; abstract a : boolean; layer L : { a := y; x := a; } }\n",
         1,
-        "x//L: false at 0\n             0\n x target    0\n y           1\n a abstract  1\nproved 0 of 1\n",
+        "x//L: false at 0\n             0\n x target    0\n y           1\n a abstract  1\n the map allows 1\nproved 0 of 1\n",
+    ),
+    // A map that allows other values at the last time than before.
+    (
+        "explain",
+        "module main() { c : 0..3; init(c) := 0; next(c) := 0; layer L : { init(c) := 0; next(c) := c + 1; } }\n",
+        1,
+        "c//L: false at 1\n           0  1\n c target  0  .\n the map allows 1\nproved 0 of 1\n",
+    ),
+    // One that allows several, in the order of the type.
+    (
+        "explain",
+        "module main() { x : {red, green, blue}; x := blue; layer L : { x := {green, red}; } }\n",
+        1,
+        "x//L: false at 0\n              0\n x target  blue\n the map allows red, green\nproved 0 of 1\n",
+    ),
+    // One of what the case does not show.
+    (
+        "explain",
+        "scalarset P undefined; module main() { a : P; x : array P of boolean; y : boolean; layer L : { y := x[a]; } }\n",
+        1,
+        "y//L: false at 0\n           0\n a         *\n y target  0\n the map allows no value for certain\nproved 0 of 1\n",
     ),
     // A claim, and one that is true if the other is.
     (
@@ -119,6 +140,32 @@ const ROWS: &[Row] = &[
         0,
         "smv proof 1\ndesign 31\nmodule main() { x : boolean; }\n\n",
     ),
+    // A state bit that is free: no gate is needed.
+    (
+        "aiger p",
+        "module main() { x : boolean; p : assert G x; }\n",
+        0,
+        "aig 3 1 2 1 0\n2\n1\n3\ni0 n0\nl0 s0\nl1 started\no0 broken\nc\n time 0: x = 0\n time 1: x = 1\n",
+    ),
+    // A state bit that stays: gates for the step, and one for each latch.
+    (
+        "aiger p 1",
+        "module main() { x : boolean; init(x) := 1; next(x) := x; p : assert G x; }\n",
+        0,
+        "aig 12 1 2 1 9\n24\n21\n22\n\x04\x02\x05\x02\x01\x02\x01\n\x03\x07\x0b\x05\x01\x02\x08\x08\x03\x13i0 n0\nl0 s0\nl1 started\no0 broken\nc\n time 0: x = 0\n time 1: x = 1\n",
+    ),
+    (
+        "aiger p 2",
+        "module main() { x : boolean; p : assert G x; }\n",
+        1,
+        "p: cases 1\n",
+    ),
+    (
+        "aiger q",
+        "module main() { x : boolean; p : assert G x; }\n",
+        3,
+        "fault 26 at line 1 column 1\n",
+    ),
     (
         "list",
         "module main() {\n  x := 1;\n}\n",
@@ -136,7 +183,7 @@ const WHOLE: Streams = (None, 4000);
 const CLAIM: &str = "module main() { x : boolean; p : assert G x; }\n";
 
 const USAGE: &str =
-    "usage: smv_look list|cone NAME [CASE]|lint|explain|sets NAME [CASE]|front < TEXT\n";
+    "usage: smv_look list|cone NAME [CASE]|lint|explain|sets NAME [CASE]|front|aiger NAME [CASE] < TEXT\n";
 
 const STREAM_ROWS: &[(Streams, Row)] = &[
     // Where the words ask for nothing the source is not asked.
@@ -151,6 +198,7 @@ const STREAM_ROWS: &[(Streams, Row)] = &[
     ((Some(0), 4000), ("sets p 0", CLAIM, 4, USAGE)),
     ((Some(0), 4000), ("sets p --nodes 0", CLAIM, 4, USAGE)),
     ((Some(0), 4000), ("front p", CLAIM, 4, USAGE)),
+    ((Some(0), 4000), ("aiger", CLAIM, 4, USAGE)),
     ((Some(0), 4000), ("list", CLAIM, 5, "")),
     ((None, 5), ("list", CLAIM, 6, "p: cl")),
     ((None, 7), ("list", "x\n", 6, "fault 5")),

@@ -18,3 +18,6 @@ returns-in-Sets c = λ text. rw c.in-Sets.is (line_31 text)
 
 pub returns-in-Front : goal.returns-in-Front
 returns-in-Front c = λ text. rw c.in-Front.is (line_31 text)
+
+pub returns-in-Aiger : goal.returns-in-Aiger
+returns-in-Aiger c = λ text. rw c.in-Aiger.is (line_31 text)

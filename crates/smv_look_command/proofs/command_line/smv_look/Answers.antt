@@ -24,5 +24,7 @@ returns c =
     c.in_ok-subcommand-4.ensures.shape c.new-3.ensures.local ∙ ap₂ with_subcommand with_3 (ap top_of c.new-3.ensures.app) in
     let with_5 : app_of c.in_ok-subcommand-5.field-0 ≡ so_far (line.list ∷ line.cone ∷ line.lint ∷ line.explain ∷ line.sets ∷ []) =
     c.in_ok-subcommand-5.ensures.shape c.in_ok-sets.ensures.local ∙ ap₂ with_subcommand with_4 (ap top_of c.in_ok-sets.ensures.app) in
-    IfOk-weaker c.subcommand-6.result _ _ (λ command added. added.shape c.new-4.ensures.local ∙ ap₂ with_subcommand with_5 (ap top_of c.new-4.ensures.app))
-    c.subcommand-6.ensures
+    let with_6 : app_of c.in_ok-subcommand-6.field-0 ≡ so_far (line.list ∷ line.cone ∷ line.lint ∷ line.explain ∷ line.sets ∷ line.front ∷ []) =
+    c.in_ok-subcommand-6.ensures.shape c.new-4.ensures.local ∙ ap₂ with_subcommand with_5 (ap top_of c.new-4.ensures.app) in
+    IfOk-weaker c.subcommand-7.result _ _ (λ command added. added.shape c.in_ok-aiger.ensures.local ∙ ap₂ with_subcommand with_6 (ap top_of c.in_ok-aiger.ensures.app))
+    c.subcommand-7.ensures

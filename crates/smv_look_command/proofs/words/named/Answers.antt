@@ -4,9 +4,9 @@ use Rattle.std.specs.Prelude.{option_map}
 use Rattle.clap.specs.Matches.{found_of}
 use Rattle.clap.specs.Walk.{rows_of}
 use Rattle.smv_command.specs.Commands.{both, budgets_in}
-use Rattle.smv_look_command.specs.declared.queries.Query.TheVariants.{Cone, Sets}
+use Rattle.smv_look_command.specs.declared.queries.Query.TheVariants.{Aiger, Cone, Sets}
 use Rattle.smv_look_command.specs.Queries.{any_case_in}
-use Rattle.smv_look_command.proofs.ByName.{at_cone, at_explain, at_front, at_lint, at_list, at_sets, given_to_cone, given_to_sets, no_name}
+use Rattle.smv_look_command.proofs.ByName.{at_aiger, at_cone, at_explain, at_front, at_lint, at_list, at_sets, given_to_aiger, given_to_cone, given_to_sets, no_name}
 use Rattle.smv_look_command.proofs.words.named.Goals as goal
 
 pub returns-then-eq : goal.returns-then-eq
@@ -47,9 +47,20 @@ returns-in_ok-name-2 c =
 pub returns-then-eq-6 : goal.returns-then-eq-6
 returns-then-eq-6 c = at_front c.args.word.now (rows_of (found_of c.args.matches.now)) (sym c.eq-else-eq-5.ensures ∙ c.if-eq-6.true)
 
+pub text_in-requires-then-eq-7 : goal.text_in-requires-then-eq-7
+text_in-requires-then-eq-7 c = (given_to_aiger c.args.word.now (rows_of (found_of c.args.matches.now)) (sym c.eq-else-eq-6.ensures ∙ c.if-eq-7.true) c.requires).0
+
+pub case_in-case-requires-then-eq-7 : goal.case_in-case-requires-then-eq-7
+case_in-case-requires-then-eq-7 c = (given_to_aiger c.args.word.now (rows_of (found_of c.args.matches.now)) (sym c.eq-else-eq-6.ensures ∙ c.if-eq-7.true) c.requires).1
+
+pub returns-in_ok-name-3 : goal.returns-in_ok-name-3
+returns-in_ok-name-3 c =
+    at_aiger c.args.word.now (rows_of (found_of c.args.matches.now)) (sym c.eq-else-eq-6.ensures ∙ c.if-eq-7.true)
+    ∙ ap₂ (λ x y. option_map (λ p. Aiger p.0 p.1) (both x y)) c.in_ok-name-3.ensures c.case_in-case-then-eq-7.ensures
+
 pub unreachable-requires : goal.unreachable-requires
 unreachable-requires c =
     let none =
     no_name c.args.word.now (rows_of (found_of c.args.matches.now)) (sym c.eq.ensures ∙ c.if-eq.false) (sym c.eq-else-eq.ensures ∙ c.if-eq-2.false) (sym c.eq-else-eq-2.ensures ∙ c.if-eq-3.false)
-    (sym c.eq-else-eq-3.ensures ∙ c.if-eq-4.false) (sym c.eq-else-eq-4.ensures ∙ c.if-eq-5.false) (sym c.eq-else-eq-5.ensures ∙ c.if-eq-6.false) in
+    (sym c.eq-else-eq-3.ensures ∙ c.if-eq-4.false) (sym c.eq-else-eq-4.ensures ∙ c.if-eq-5.false) (sym c.eq-else-eq-5.ensures ∙ c.if-eq-6.false) (sym c.eq-else-eq-6.ensures ∙ c.if-eq-7.false) in
     true≢false (sym (ap is_some (sym none) ∙ c.requires))

@@ -11,7 +11,7 @@ use Rattle.smv_command.proofs.Values.{number_ranged}
 use Rattle.smv_problem.specs.declared.report.Budgets.{Budgets}
 use Rattle.smv_look_command.specs.CommandLine.{smv_look}
 use Rattle.smv_look_command.specs.declared.queries.Query.{Query}
-use Rattle.smv_look_command.specs.declared.queries.Query.TheVariants.{Cone, Sets}
+use Rattle.smv_look_command.specs.declared.queries.Query.TheVariants.{Aiger, Cone, Sets}
 use Rattle.smv_look_command.specs.Queries.{IsInRange, any_case_in, most_cases, named, query_of}
 use Rattle.smv_look_command.proofs.words_laws.numbers_are_in_range.Goals as goal
 
@@ -44,6 +44,11 @@ cone_ranged None case = tt
 cone_ranged (Some n) None = tt
 cone_ranged (Some n) (Some k) = tt
 
+aiger_ranged : (name : Option Text) (case : Option ℕ) → InRange (option_map (λ p. Aiger p.0 p.1) (both name case))
+aiger_ranged None case = tt
+aiger_ranged (Some n) None = tt
+aiger_ranged (Some n) (Some k) = tt
+
 chosen : (b : Bool) (x y : Option Query) → InRange x → InRange y → InRange (if b then x else y)
 chosen true x y p q = p
 chosen false x y p q = q
@@ -56,7 +61,8 @@ named_ranged word rows =
     (chosen (bytes_eq word (codes "lint")) _ _ tt
     (chosen (bytes_eq word (codes "explain")) _ _ tt
     (chosen (bytes_eq word (codes "sets")) _ _ (sets_ranged (name_in rows) (any_case_in rows) (budgets_in rows) (steps_ranged rows))
-    (chosen (bytes_eq word (codes "front")) _ _ tt tt)))))
+    (chosen (bytes_eq word (codes "front")) _ _ tt
+    (chosen (bytes_eq word (codes "aiger")) _ _ (aiger_ranged (name_in rows) (number_in most_cases (codes "CASE") rows)) tt))))))
 
 words_ranged : (words : List Text) → InRange (query_of words)
 unfolding query_of

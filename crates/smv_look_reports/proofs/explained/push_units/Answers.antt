@@ -1,4 +1,4 @@
-use Rattle.std.proofs.Common.{List, ap, arith, length}
+use Rattle.std.proofs.Common.{◌∙◌, ◌++◌, List, ap, arith, length}
 use Rattle.std.specs.Prelude.{get_or}
 use Rattle.std.proofs.lemmas.Option.{slice_get-get_or}
 use Rattle.smv_core.specs.declared.flat.Unit.{Unit}
@@ -6,6 +6,8 @@ use Rattle.smv_core.specs.declared.flat.Unit.TheVariants.{Map}
 use Rattle.smv_core.specs.declared.flat.Leaf.{Leaf}
 use Rattle.smv_core.specs.declared.flat.Choice.{Choice}
 use Rattle.smv_core.specs.declared.flat.Timed.{Timed}
+use Rattle.smv_problem.specs.declared.problem.AbsValue.{AbsValue}
+use Rattle.smv_look_reports.specs.Explained.{unit_lines}
 use Rattle.smv_look_reports.proofs.Steps.{one_unit, there}
 use Rattle.smv_look_reports.proofs.explained.push_units.Goals as goal
 
@@ -20,11 +22,13 @@ loop-u-preserved c =
     let each_choice = c.requires.choices in
     let each_time = c.requires.timed in
     let each_result = c.requires.results in
-    one_unit c.args.plan.now.design c.args.plan.now.units c.as_slice-units.result.now c.args.results.now c.loop-u.u c.as_slice-leaves.result.now c.as_slice-choices.result.now c.as_slice-timed.result.now c.args.results.now
-    (get_or c.as_slice-units.result.now c.loop-u.u (Map 0)) c.index-leaves-u.result c.index-choices-u.result c.index-timed-u.result c.index-results-u.result c.loop-u.out.items c.push_unit.new.out.items _ c.as_slice-units.ensures
+    let each_allowed = c.requires.allowed in
+    one_unit c.args.plan.now.design c.args.plan.now.units c.as_slice-units.result.now c.args.results.now c.loop-u.u c.as_slice-leaves.result.now c.as_slice-choices.result.now c.as_slice-timed.result.now c.args.results.now c.args.allowed.now
+    (get_or c.as_slice-units.result.now c.loop-u.u (Map 0)) c.index-leaves-u.result c.index-choices-u.result c.index-timed-u.result c.index-results-u.result c.index-allowed-u.result c.loop-u.out.items c.push_unit.new.out.items _ c.as_slice-units.ensures
     (slice_get-get_or c.as_slice-units.result.now c.loop-u.u (Map 0) test)
     (there c.as_slice-leaves.result.now c.loop-u.u c.index-leaves-u.result (omega (arith, test, units, leaves, each_leaf)) c.index-leaves-u.is)
     (there c.as_slice-choices.result.now c.loop-u.u c.index-choices-u.result (omega (arith, test, units, choices, each_choice)) c.index-choices-u.is)
     (there c.as_slice-timed.result.now c.loop-u.u c.index-timed-u.result (omega (arith, test, units, timed, each_time)) c.index-timed-u.is)
     (there c.args.results.now c.loop-u.u c.index-results-u.result (omega (arith, test, units, each_result)) c.index-results-u.is)
-    c.in_ok-push_unit.ensures c.loop-u.invariant
+    (there c.args.allowed.now c.loop-u.u c.index-allowed-u.result (omega (arith, test, units, each_allowed)) c.index-allowed-u.is)
+    (c.in_ok-push_unit.ensures ∙ ap (λ (values : List AbsValue). c.loop-u.out.items ++ unit_lines (record { design = c.args.plan.now.design; units = c.as_slice-units.result.now }) c.args.results.now (get_or c.as_slice-units.result.now c.loop-u.u (Map 0)) c.index-leaves-u.result c.index-choices-u.result c.index-timed-u.result c.index-results-u.result values) c.as_slice.ensures) c.loop-u.invariant

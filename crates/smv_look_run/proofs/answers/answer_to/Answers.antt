@@ -7,4 +7,4 @@ use Rattle.smv_look_run.proofs.answers.answer_to.Goals as goal
 pub returns-then-text-gt-LIMIT : goal.returns-then-text-gt-LIMIT
 returns-then-text-gt-LIMIT c =
     let long : limit < length c.args.text.now = grind (arith, c.if-text-gt-LIMIT.true) in
-    if_ok_both c.refused.result _ _ _ (λ a s b. due_fault c.args.query.now c.args.text.now 31 0 a.status a.bytes.items (is_long c.args.query.now c.args.text.now long) s b) c.refused.ensures.status c.refused.ensures.bytes
+    if_ok_both c.long.result _ _ _ (λ a s b. due_fault c.args.query.now c.args.text.now 31 0 a.status a.bytes.items (is_long c.args.query.now c.args.text.now long) s (b c.args.text.now)) c.long.ensures.status c.long.ensures.bytes

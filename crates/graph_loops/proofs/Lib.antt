@@ -1,0 +1,4 @@
+mod Levels
+mod RoundLaws
+mod FollowLaws
+mod Shortest

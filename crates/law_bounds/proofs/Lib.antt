@@ -1,0 +1,3 @@
+pub mod NumberLaws
+pub mod NarrowLaws
+pub mod BoundLaws

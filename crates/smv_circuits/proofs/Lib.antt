@@ -1,0 +1,5 @@
+pub mod Values
+pub mod Adds
+pub mod WalkLaws
+pub mod FrameLaws
+pub mod FileLaws

@@ -1,0 +1,7 @@
+use Rattle.std.proofs.Common.{append_assoc}
+use Rattle.smv_circuits.proofs.writing.push_header.Goals as goal
+
+pub returns : goal.returns
+returns c =
+    rw (c.in_ok-push-3.ensures.items, c.in_ok-push_number-4.ensures, c.in_ok-extend_from_slice-2.ensures.items, c.in_ok-push_number-3.ensures, c.in_ok-push-2.ensures.items, c.in_ok-push_number-2.ensures, c.in_ok-push.ensures.items, c.in_ok-push_number.ensures, c.in_ok-extend_from_slice.ensures.items)
+    (simp append_assoc)

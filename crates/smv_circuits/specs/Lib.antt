@@ -1,0 +1,4 @@
+pub mod Circuits
+pub mod Readings
+pub mod Frames
+pub mod Files

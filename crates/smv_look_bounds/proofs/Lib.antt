@@ -1,0 +1,10 @@
+pub mod BoundEquations
+pub mod ConstantEquations
+pub mod DoubtEquations
+pub mod Listing
+pub mod NarrowEquations
+pub mod PartEquations
+pub mod PlaceEquations
+pub mod SteadyEquations
+pub mod TargetEquations
+pub mod ValueEquations

@@ -1,0 +1,4 @@
+mod ShareLaws
+mod EdgeLaws
+mod PathLaws
+mod FoundLaws

@@ -1,0 +1,7 @@
+use Rattle.std.proofs.Common.{◌≡◌, drop}
+use Rattle.smv_mentions.specs.Scopes.{first_of_places}
+use Rattle.smv_first_fault.specs.Firsts.{least}
+use Rattle.smv_look_uses.proofs.chosen.first_place.Given as goal
+
+abbrev pub invariant-loop-place : goal.invariant-loop-place
+invariant-loop-place l = first_of_places l.first (least (drop l.place-index l.places)) ≡ least l.places

@@ -1,0 +1,116 @@
+#!/usr/bin/env python3
+"""Compares Berkeley ABC's `pdr` with the prover, on texts that are given and on random designs.
+
+    tools/beside_abc.py PROGRAM LOOK [--seconds 60] [--abc berkeley-abc] [--random COUNT] [--seed N] [--times] [TEXT ..]
+
+PROGRAM is the prover, LOOK is `smv_look`. Every case of every unit is given to the engine (tools/with_abc.py). A unit is true where each of its cases has a set, and false at the time at which its first case without one is.
+Where `prove` says true or false, the engine has to say the same, at the same time; and where all units are true the document that is made of its sets has to be checked.
+Random designs are those of tools/random_designs.py, every second one a wide one. It prints a line for each text, with --times also the seconds of `prove`, of the engine with all around it, and of `check`, the lines of the
+sets and the megabytes that `check` took; of random designs it prints how many there were. It ends with status 1 where something differs.
+"""
+import argparse
+import os
+import pathlib
+import random
+import re
+import subprocess
+import sys
+import tempfile
+import time
+
+import random_designs
+
+TOOLS = pathlib.Path(__file__).resolve().parent
+
+
+def run(words, given=b"", seconds=None):
+    """What a command writes, its seconds by the clock and the megabytes that it took at most; nothing where the time is over."""
+    begun = time.monotonic()
+    with tempfile.TemporaryFile() as source, tempfile.TemporaryFile() as sink:
+        source.write(given)
+        source.seek(0)
+        child = subprocess.Popen(["timeout", str(seconds), *words] if seconds else words, stdin=source, stdout=sink)
+        _, status, usage = os.wait4(child.pid, 0)
+        child.returncode = os.waitstatus_to_exitcode(status)
+        sink.seek(0)
+        return sink.read().decode(errors="replace"), time.monotonic() - begun, usage.ru_maxrss // 1024
+
+
+def told_by(folder):
+    """What the engine says of each unit, by the files of its cases."""
+    told = {}
+    for line, case in enumerate((folder / "cases").read_text().splitlines(), 1):
+        name = case.split()[0]
+        if told.get(name, "true") == "true":
+            shown = folder / f"{line}.open"
+            found = re.match(r"\S+: (false at \d+)\n", shown.read_text()) if shown.exists() else None
+            told[name] = "true" if (folder / f"{line}.set").exists() else found[1] if found else "undecided"
+    return told
+
+
+def compare(asked, text):
+    """What differs in a text, what the engine says of its units, and what it took."""
+    with tempfile.TemporaryDirectory() as made:
+        folder = pathlib.Path(made)
+        os.environ["SMV_LOOK"] = asked.look
+        run([TOOLS / "sets.sh", "list", text, folder])
+        _, sought, _ = run([TOOLS / "with_abc.py", text, folder, "--look", asked.look, "--abc", asked.abc, "--seconds", str(asked.seconds)])
+        told, wrong = told_by(folder), []
+        report, proved, _ = run([asked.program, "prove"], text.read_bytes(), asked.seconds)
+        for name, verdict in re.findall(r"^(\S+): (true|false at \d+|unknown \w+)", report, re.M):
+            if not verdict.startswith("unknown") and told.get(name, "true") not in (verdict, "undecided"):
+                wrong.append(f"{name}: {verdict}, and by the engine {told.get(name)}")
+        took = f"; prove {proved:.1f} s{'' if report else ' (no answer)'}, engine {sought:.1f} s"
+        if told and set(told.values()) == {"true"}:
+            document, _, _ = run([TOOLS / "sets.sh", "join", text, folder])
+            answer, checked, most = run([asked.program, "check"], document.encode(), asked.seconds)
+            if not answer.startswith("checked ") and answer:
+                wrong.append(f"check: {answer}")
+            lines = sum(len(file.read_text().splitlines()) - 1 for file in folder.glob("*.set"))
+            took += f", {lines} lines, check {checked:.1f} s{'' if answer else ' (no answer)'}, {most} MB"
+    return wrong, told, took
+
+
+def random_texts(count, folder):
+    """Random designs as files; those that the program refuses have no units."""
+    for number in range(count):
+        text = random_designs.wide_design() if number % 2 else random_designs.design()[0]
+        file = folder / f"{number}.smv"
+        file.write_text(text)
+        yield file
+
+
+def main():
+    words = argparse.ArgumentParser(description=__doc__.split("\n")[0])
+    words.add_argument("program")
+    words.add_argument("look")
+    words.add_argument("texts", type=pathlib.Path, nargs="*")
+    words.add_argument("--seconds", type=int, default=60)
+    words.add_argument("--abc", default="berkeley-abc")
+    words.add_argument("--random", type=int, default=0)
+    words.add_argument("--seed", type=int, default=1)
+    words.add_argument("--times", action="store_true")
+    asked = words.parse_intermixed_args()
+    bad = 0
+    for text in asked.texts:
+        wrong, told, took = compare(asked, text)
+        bad += bool(wrong)
+        print(f"{text.name}: {', '.join(told.values()) or 'no units'}{took if asked.times else ''}" + "".join(f"\n  {what}" for what in wrong), flush=True)
+    random.seed(asked.seed)
+    units, verdicts = 0, {}
+    with tempfile.TemporaryDirectory() as made:
+        for text in random_texts(asked.random, pathlib.Path(made)):
+            wrong, told, _ = compare(asked, text)
+            bad += bool(wrong)
+            units += len(told)
+            for verdict in told.values():
+                verdicts[verdict] = verdicts.get(verdict, 0) + 1
+            if wrong:
+                print(text.read_text() + "".join(f"  {what}\n" for what in wrong), flush=True)
+    if asked.random:
+        print(f"{asked.random} random designs, {units} units: " + ", ".join(f"{count} {verdict}" for verdict, count in sorted(verdicts.items())))
+    return 1 if bad else 0
+
+
+if __name__ == "__main__":
+    sys.exit(main())
