@@ -5,7 +5,7 @@
 
 PROGRAM is the prover, LOOK is `smv_look`. Every case of every unit is given to the engine (tools/with_abc.py). A unit is true where each of its cases has a set, and false at the time at which its first case without one is.
 Where `prove` says true or false, the engine has to say the same, at the same time; and where all units are true the document that is made of its sets has to be checked.
-Random designs are those of tools/random_designs.py, every second one a wide one. It prints a line for each text, with --times also the seconds of `prove`, of the engine with all around it, and of `check`, the lines of the
+Random designs are those of tools/random_designs.py, every second one a wide one. It prints a line for each text, with --times also the seconds of `prove` and how many units it leaves unknown, those of the engine with all around it, and of `check`, the lines of the
 sets and the megabytes that `check` took; of random designs it prints how many there were. It ends with status 1 where something differs.
 """
 import argparse
@@ -60,7 +60,8 @@ def compare(asked, text):
         for name, verdict in re.findall(r"^(\S+): (true|false at \d+|unknown \w+)", report, re.M):
             if not verdict.startswith("unknown") and told.get(name, "true") not in (verdict, "undecided"):
                 wrong.append(f"{name}: {verdict}, and by the engine {told.get(name)}")
-        took = f"; prove {proved:.1f} s{'' if report else ' (no answer)'}, engine {sought:.1f} s"
+        unknown = len(re.findall(r"^\S+: unknown ", report, re.M))
+        took = f"; prove {proved:.1f} s{f' ({unknown} unknown)' if unknown else '' if report else ' (no answer)'}, engine {sought:.1f} s"
         if told and set(told.values()) == {"true"}:
             document, _, _ = run([TOOLS / "sets.sh", "join", text, folder])
             answer, checked, most = run([asked.program, "check"], document.encode(), asked.seconds)

@@ -499,6 +499,55 @@ def gray_table(n):
 """
 
 
+def counters(n):
+    """A counter as a number beside one by bits, which an input stops."""
+    return f"""module main() {{
+  go : boolean;
+  number : 0..{2**n - 1};
+  b : array 0..{n - 1} of boolean;
+  c : array 0..{n} of boolean;
+  init(number) := 0;
+  if (go) next(number) := (number + 1) mod {2**n};
+  c[0] := go;
+  for (i = 0; i < {n}; i = i + 1) {{
+    c[i + 1] := c[i] & b[i];
+    init(b[i]) := 0;
+    next(b[i]) := b[i] ~= c[i];
+  }}
+  p : assert G (number = {" + ".join(f"(b[{k}] ? {2**k} : 0)" for k in range(n))});
+}}
+"""
+
+
+def multiplier(n):
+    """A multiplier by bits beside itself with its factors exchanged: rows of adders."""
+    rows = lambda product, one, other: "\n".join(  # noqa: E731
+        f"""  for (i = 0; i < {n}; i = i + 1) {{
+    {product}{k}[i] := ({product}{k - 1}[i + 1] ~= ({one}[i] & {other}[{k}])) ~= {product}c{k}[i];
+    {product}c{k}[i + 1] := {product}{k - 1}[i + 1] & {one}[i] & {other}[{k}] | {product}c{k}[i] & ({product}{k - 1}[i + 1] | {one}[i] & {other}[{k}]);
+  }}
+  {product}c{k}[0] := 0;
+  {product}{k}[{n}] := {product}c{k}[{n}];"""
+        for k in range(1, n)
+    )
+    first = lambda product, one, other: f"""  for (i = 0; i < {n}; i = i + 1) {product}0[i] := {one}[i] & {other}[0];
+  {product}0[{n}] := 0;"""  # noqa: E731
+    sums = ", ".join(f"{product}{k}" for product in "pq" for k in range(n))
+    carries = ", ".join(f"{product}c{k}" for product in "pq" for k in range(1, n))
+    same = " & ".join([f"p{k}[0] = q{k}[0]" for k in range(n - 1)] + [f"p{n - 1}[{i}] = q{n - 1}[{i}]" for i in range(n + 1)])
+    return f"""module main() {{
+  a, b : array 0..{n - 1} of boolean;
+  {sums} : array 0..{n} of boolean;
+  {carries} : array 0..{n} of boolean;
+{first("p", "a", "b")}
+{rows("p", "a", "b")}
+{first("q", "b", "a")}
+{rows("q", "b", "a")}
+  same : assert G ({same});
+}}
+"""
+
+
 FAMILIES = [
     ("wires, arrays", wire_array, [16, 32, 64]),
     ("wires, turned round", wire_reverse, [16, 32, 64]),
@@ -520,4 +569,6 @@ FAMILIES = [
     ("memory, index last", memory, [4, 8, 16]),
     ("Gray code", gray, [4, 8, 12]),
     ("table of Gray codes", gray_table, [3, 4]),
+    ("counters", counters, [4, 8]),
+    ("multiplier", multiplier, [4, 6, 8]),
 ]

@@ -1,3 +1,4 @@
 pub mod NumberLaws
 pub mod NarrowLaws
 pub mod BoundLaws
+pub mod ConstantLaws

@@ -34,7 +34,7 @@ moduloed b computed o by h = tt
 
 -- ---- logic
 
-both : (p q : Bool) → (p && q) ≡ true → (p ≡ true) × (q ≡ true)
+pub both : (p q : Bool) → (p && q) ≡ true → (p ≡ true) × (q ≡ true)
 both true true e = (refl, refl)
 both true false e = absurd (cc)
 both false q e = absurd (cc)

@@ -1,1 +1,2 @@
 pub mod BoundsHold
+pub mod ConstantsStay

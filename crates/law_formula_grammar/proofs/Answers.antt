@@ -12,7 +12,8 @@ use Rattle.law_formula_grammar.proofs.Texts.{texts}
 use Rattle.law_formula_grammar.proofs.Whole as w
 use Rattle.law_formula_grammar.proofs.Only as o
 
-law : (n : ℕ) → Law text_rule n (read_tops n) (stops_by (λ ft. top_marks))
+-- the law of the reader of texts
+pub law : (n : ℕ) → Law text_rule n (read_tops n) (stops_by (λ ft. top_marks))
 law n = (texts n).law tt
 
 pub one-text : IsOneText

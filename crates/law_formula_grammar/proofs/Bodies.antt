@@ -114,7 +114,7 @@ body-begins = record { holds = λ floor m ts a rest h. factored.holds floor m ts
 
 -- ---- what stands inside an opened level, where there is one
 
-abbrev ItemLaw : ℕ → Parser (With Item) → Type 0
+abbrev pub ItemLaw : ℕ → Parser (With Item) → Type 0
 ItemLaw n inner = Lawful (0 < n) item_at (n - 1) inner (stops_by (λ i. else_marks))
 
 module _ (C : Type 0) (n : ℕ) (inner : Parser (With Item)) (law : ItemLaw n inner) where
@@ -160,7 +160,8 @@ item-finishes place =
 body-finishes : (place : ℕ) → Finishes body_at place
 body-finishes place = let x = item-finishes place in record { more = x.more; value = x.value; enough = x.enough; spelled = λ floor m z e rest. inr (inr (inr (x.spelled floor m z e rest))) }
 
-items-law : (n : ℕ) → ItemLaw n (p.item_reader n)
+-- what stands in an opened level
+pub items-law : (n : ℕ) → ItemLaw n (p.item_reader n)
 items-law zero = record { finishes = item-finishes; law = λ c. absurd (omega arith) }
 items-law (suc n) =
     let e : n ≡ suc n - 1 = omega arith in

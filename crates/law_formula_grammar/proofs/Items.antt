@@ -21,13 +21,12 @@ use Rattle.law_grammar.proofs.Tokens.{nothing-lawful}
 use Rattle.law_grammar.proofs.Forms.{Begins, begins-then, begins-either, begins-wider, starts-wider, token-begins, opener-begins, token-lawful, name-begins, name-lawful, closed, next, repeated, alternative, next-begun, made, ended}
 use Rattle.law_grammar.proofs.Types.{type_marks}
 use Rattle.law_grammar.proofs.Statements.{else_marks, value-lawful, worded_marks, worded-begins}
-use Rattle.law_grammar.proofs.Items.{of_names, worded, from_using, from_split, from_block}
+use Rattle.law_grammar.proofs.Items.{of_names, worded, from_using, from_split, from_block, of-names-lawful, of-names-begins}
 use Rattle.law_grammar.proofs.Marked.{marked, marked-begins, marked-lawful, parts-marked, marked-parts, brackets-marked, marked-brackets}
 use Rattle.law_grammar.proofs.Expressions.{At, after_path, after_expr, names}
 use Rattle.law_formula_grammar.specs.Grammar.{With, bare, without, claim_of, forall_of, block_of, formula_at, claim, item_rule, item_below}
 use Rattle.law_formula_grammar.specs.Readers as p
 use Rattle.law_formula_grammar.proofs.Formulas.{placed-lawful}
-use Rattle.law_formula_grammar.proofs.Declared.{of-names-lawful, of-names-begins}
 
 -- ---- what stands behind the name of a claim or an assignment
 

@@ -1,5 +1,4 @@
 pub mod Formulas
-pub mod Declared
 pub mod Items
 pub mod Bodies
 pub mod Texts

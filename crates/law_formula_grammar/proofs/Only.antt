@@ -7,45 +7,11 @@ use Rattle.law_grammar.specs.Parsing.{Halt, Halts, Outcome, Parser}
 use Rattle.law_grammar.specs.Lawful.{Levels, first, Completes, IsDeep, Law}
 use Rattle.law_grammar.specs.Laws.{Rise}
 use Rattle.law_grammar.proofs.Whole.{reorder, no-nil, kept-none, kept-all, kept-above}
+use Rattle.law_grammar.proofs.Only.{Cuts, at_one, earlier, later, cuts, rise-before}
 use Rattle.law_formula_grammar.specs.Spelling.{GoesOnWithinBy, IsRefusedBy, IsUnexpectedBy, IsTooDeepBy}
 use Rattle.law_formula_grammar.specs.Readers.{whole}
 use Rattle.law_formula_grammar.specs.Laws.{IsRightBy, HaltsBy}
 use Rattle.law_formula_grammar.proofs.Whole.{Refusal, refusal, answered, never-deep, too-deep-at}
-
--- ---- two ways to cut a list
-
-data Cuts (f r f' r' : Tokens) : Type 0 where
-  at_one : f ≡ f' → r ≡ r' → Cuts f r f' r'
-  earlier : (t : Token) → (more : Tokens) → f' ≡ f ++ t ∷ more → r ≡ t ∷ more ++ r' → Cuts f r f' r'
-  later : (t : Token) → (more : Tokens) → f ≡ f' ++ t ∷ more → r' ≡ t ∷ more ++ r → Cuts f r f' r'
-
-cons-cuts : (x y : Token) (f r f' r' : Tokens) → x ≡ y → Cuts f r f' r' → Cuts (x ∷ f) r (y ∷ f') r'
-cons-cuts x y f r f' r' e (at_one p q) = at_one (rw e (ap (λ (z : Tokens). y ∷ z) p)) q
-cons-cuts x y f r f' r' e (earlier t more p q) = earlier t more (rw e (ap (λ (z : Tokens). y ∷ z) p)) q
-cons-cuts x y f r f' r' e (later t more p q) = later t more (rw e (ap (λ (z : Tokens). y ∷ z) p)) q
-
-cuts : (f r f' r' : Tokens) → f ++ r ≡ f' ++ r' → Cuts f r f' r'
-cuts [] r [] r' e = at_one refl e
-cuts [] r (y ∷ f') r' e = earlier y f' refl e
-cuts (x ∷ f) r [] r' e = later x f refl (sym e)
-cuts (x ∷ f) r (y ∷ f') r' e = let p : x ≡ y = cc in let q : f ++ r ≡ f' ++ r' = cc in cons-cuts x y f r f' r' p (cuts f r f' r' q)
-
--- the offset of a token is before the place of what comes later
-rise-rest : (length : ℕ) (f r : Tokens) → Rise length (f ++ r) → place_of_rest length (f ++ r) ≤ place_of_rest length r
-rise-rest length [] r h = omega arith
-rise-rest length (t ∷ f) r h = let l = rise-rest length f r h.1 in let k = h.0 in omega arith
-
-rise-tail : (length : ℕ) (f r : Tokens) → Rise length (f ++ r) → Rise length r
-rise-tail length [] r h = h
-rise-tail length (t ∷ f) r h = rise-tail length f r h.1
-
-rise-before : (length : ℕ) (f : Tokens) (t : Token) (more r ts : Tokens) → ts ≡ f ++ (t ∷ more ++ r) → Rise length ts → t.at < place_of_rest length r
-rise-before length f t more r ts e h =
-    let P : Tokens → Type 0 = λ z. Rise length z in
-    let k = rise-tail length f (t ∷ more ++ r) (subst P e h) in
-    let l = rise-rest length more r k.1 in
-    let j = k.0 in
-    omega arith
 
 module _ {A : Type 0} (F : Levels A) (p : ℕ → Parser A) (st : A → Option Token → Bool) (law : (n : ℕ) → Law F n (p n) st) (end : (a : A) → st a None ≡ true) where
   abbrev Halted : ℕ → Tokens → Bool → Tokens → Type 0

@@ -44,7 +44,7 @@ from-typedef-begins = begins-either (begins-wider (exactly w.word_typedef ∷ []
 from-ordset-begins : Begins (exactly w.word_ordset ∷ exactly w.word_typedef ∷ exactly w.word_module ∷ []) (λ floor m. ordset_rule floor m <|> typedef_rule floor m <|> module_rule floor m)
 from-ordset-begins = begins-either (begins-wider (exactly w.word_ordset ∷ []) _ refl (begins-then (token-begins w.word_ordset))) (begins-wider (exactly w.word_typedef ∷ exactly w.word_module ∷ []) _ refl from-typedef-begins)
 
-top-begins : Begins top_marks top_rule
+pub top-begins : Begins top_marks top_rule
 top-begins = begins-either (begins-wider (exactly w.word_scalarset ∷ []) _ refl (begins-then (token-begins w.word_scalarset)))
     (begins-wider (exactly w.word_ordset ∷ exactly w.word_typedef ∷ exactly w.word_module ∷ []) _ refl from-ordset-begins)
 
@@ -77,7 +77,7 @@ module _ (C : Type 0) (n : ℕ) where
   module-lawful = next (token-lawful w.word_module refl) (λ at. next name-lawful (λ x. level open_paren refl (λ _. next-begun (exactly close_paren ∷ []) (λ formals. any_name ∷ exactly comma ∷ []) names-or-none-lawful
       (λ formals. next (token-lawful close_paren refl) (λ _. outside (module-body-lawful (0 < n) n at x formals))) (λ formals. begins-then (token-begins close_paren)) (λ formals. refl))))
 
-  top-lawful : Lawful C top_rule n (p.read_top n) (stops_by closed)
+  pub top-lawful : Lawful C top_rule n (p.read_top n) (stops_by closed)
   unfolding p.read_top
   top-lawful = alternative (exactly w.word_scalarset ∷ []) (exactly w.word_ordset ∷ exactly w.word_typedef ∷ exactly w.word_module ∷ []) (scalarset-lawful C n)
       (alternative (exactly w.word_ordset ∷ []) (exactly w.word_typedef ∷ exactly w.word_module ∷ []) (ordset-lawful C n)

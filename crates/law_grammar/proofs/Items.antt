@@ -146,12 +146,12 @@ module _ (C : Type 0) (n : ℕ) where
   declared-not : (ws : List Word) (floor : ℕ → ℕ) (m : ℕ) (ts : Tokens) (a : Item) (rest : Tokens) → declared_tail role.Plain ws (place_of ws) floor m ts a rest → starts2 (begins names) (begins (exactly open_paren ∷ [])) ts ≡ false
   declared-not ws = not-so-then {S = λ of floor m. token semicolon >> nothing (item.Declare role.Plain ws of (place_of ws))} (exactly open_paren ∷ []) (type-second (exactly semicolon ∷ [])) (λ of. begins-then (token-begins semicolon)) refl
 
-  of-names-lawful : (ws : List Word) → Lawful C (of_names ws) n (p.read_of_names n ws) (stops_by (λ i. else_marks))
+  pub of-names-lawful : (ws : List Word) → Lawful C (of_names ws) n (p.read_of_names n ws) (stops_by (λ i. else_marks))
   unfolding p.read_of_names
   of-names-lawful ws = chosen-ahead (begins names) (begins (exactly open_paren ∷ [])) (instance-lawful ws) (declared-lawful role.Plain ws (place_of ws))
       (begins2-one a_name name-begins (λ x. begins-then (opener-begins open_paren))).holds (λ floor m ts a rest h stop. declared-not ws floor m ts a rest h) (instance-accepts ws) (declared-accepts ws)
 
-  of-names-begins : (ws : List Word) → Begins type_marks (of_names ws)
+  pub of-names-begins : (ws : List Word) → Begins type_marks (of_names ws)
   of-names-begins ws = begins-either (begins-wider names _ refl (begins-then name-begins)) (begins-then type-begins)
 
   behind-colon-lawful : (x : Word) (more : List Word) → Lawful C (behind_colon x more) n (p.read_behind_colon n x more) (stops_by (λ i. else_marks))

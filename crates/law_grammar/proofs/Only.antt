@@ -28,7 +28,7 @@ only-text n ts x h = let e = all-read g.text_rule read_tops _ law (λ a. refl) n
 
 -- ---- two ways to cut a list
 
-data Cuts (f r f' r' : Tokens) : Type 0 where
+pub data Cuts (f r f' r' : Tokens) : Type 0 where
   at_one : f ≡ f' → r ≡ r' → Cuts f r f' r'
   earlier : (t : Token) → (more : Tokens) → f' ≡ f ++ t ∷ more → r ≡ t ∷ more ++ r' → Cuts f r f' r'
   later : (t : Token) → (more : Tokens) → f ≡ f' ++ t ∷ more → r' ≡ t ∷ more ++ r → Cuts f r f' r'
@@ -38,22 +38,22 @@ cons-cuts x y f r f' r' e (at_one p q) = at_one (rw e (ap (λ (z : Tokens). y �
 cons-cuts x y f r f' r' e (earlier t more p q) = earlier t more (rw e (ap (λ (z : Tokens). y ∷ z) p)) q
 cons-cuts x y f r f' r' e (later t more p q) = later t more (rw e (ap (λ (z : Tokens). y ∷ z) p)) q
 
-cuts : (f r f' r' : Tokens) → f ++ r ≡ f' ++ r' → Cuts f r f' r'
+pub cuts : (f r f' r' : Tokens) → f ++ r ≡ f' ++ r' → Cuts f r f' r'
 cuts [] r [] r' e = at_one refl e
 cuts [] r (y ∷ f') r' e = earlier y f' refl e
 cuts (x ∷ f) r [] r' e = later x f refl (sym e)
 cuts (x ∷ f) r (y ∷ f') r' e = let p : x ≡ y = cc in let q : f ++ r ≡ f' ++ r' = cc in cons-cuts x y f r f' r' p (cuts f r f' r' q)
 
 -- the offset of a token is before the place of what comes later
-rise-rest : (length : ℕ) (f r : Tokens) → Rise length (f ++ r) → place_of_rest length (f ++ r) ≤ place_of_rest length r
+pub rise-rest : (length : ℕ) (f r : Tokens) → Rise length (f ++ r) → place_of_rest length (f ++ r) ≤ place_of_rest length r
 rise-rest length [] r h = omega arith
 rise-rest length (t ∷ f) r h = let l = rise-rest length f r h.1 in let k = h.0 in omega arith
 
-rise-tail : (length : ℕ) (f r : Tokens) → Rise length (f ++ r) → Rise length r
+pub rise-tail : (length : ℕ) (f r : Tokens) → Rise length (f ++ r) → Rise length r
 rise-tail length [] r h = h
 rise-tail length (t ∷ f) r h = rise-tail length f r h.1
 
-rise-before : (length : ℕ) (f : Tokens) (t : Token) (more r ts : Tokens) → ts ≡ f ++ (t ∷ more ++ r) → Rise length ts → t.at < place_of_rest length r
+pub rise-before : (length : ℕ) (f : Tokens) (t : Token) (more r ts : Tokens) → ts ≡ f ++ (t ∷ more ++ r) → Rise length ts → t.at < place_of_rest length r
 rise-before length f t more r ts e h =
     let P : Tokens → Type 0 = λ z. Rise length z in
     let k = rise-tail length f (t ∷ more ++ r) (subst P e h) in

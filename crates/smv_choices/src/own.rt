@@ -7,7 +7,7 @@ use smv_core::flat::{Def, Design, Leaf, Pick, Unit};
 
 /// The definition that is proved, where a leaf's unit is a map.
 #[tactic(auto, using(crate::proofs::PartLaws::units))]
-pub(crate) fn own_map<'a>(design: &'a Design, units: &[Unit], leaf: &Leaf) -> Option<&'a Def>
+pub fn own_map<'a>(design: &'a Design, units: &[Unit], leaf: &Leaf) -> Option<&'a Def>
     ensures { option_copied result ≡ choices.own_map design.now units.now leaf.now }
 {
     match units.get(usize::from(leaf.unit)) {

@@ -19,12 +19,12 @@ use smv_references::again::{first_again, first_name_again};
 use std::alloc::{AllocError, Global};
 use std::collections::HashSet;
 
-// A place with a number, or with two.
-type Key = (u32, (u16, Option<u16>));
+/// A place with a number, or with two.
+pub type Key = (u32, (u16, Option<u16>));
 
-// The definitions of layers that are chosen, by family and layer.
+/// The definitions of layers that are chosen, by family and layer.
 #[tactic(auto, using(smv_mentions::proofs::Notes::noting))]
-fn map_keys(alloc: Global, picks: &[(u32, Pick)]) -> Result<Vec<Key>, AllocError>
+pub fn map_keys(alloc: Global, picks: &[(u32, Pick)]) -> Result<Vec<Key>, AllocError>
     ensures { IfOk result (λ keys. keys.items ≡ parts.map_keys picks.now) }
 {
     let mut keys = Vec::new(alloc);
@@ -44,9 +44,9 @@ fn add_map_key(keys: &mut Vec<Key>, at: u32, pick: Pick) -> Result<(), AllocErro
     Ok(())
 }
 
-// The definitions that are chosen besides the leaf's own map, by family.
+/// The definitions that are chosen besides the leaf's own map, by family.
 #[tactic(auto, using(smv_mentions::proofs::Notes::noting))]
-fn family_keys(
+pub fn family_keys(
     alloc: Global,
     own: Option<&Def>,
     picks: &[(u32, Pick)],
@@ -75,9 +75,9 @@ fn add_family_key(
     Ok(())
 }
 
-// The claims that are assumed.
+/// The claims that are assumed.
 #[tactic(auto, using(smv_mentions::proofs::Notes::noting))]
-fn claim_keys(alloc: Global, claims: &[(u32, Assumed)]) -> Result<Vec<Key>, AllocError>
+pub fn claim_keys(alloc: Global, claims: &[(u32, Assumed)]) -> Result<Vec<Key>, AllocError>
     ensures { IfOk result (λ keys. keys.items ≡ parts.claim_keys claims.now) }
 {
     let mut keys = Vec::new(alloc);
@@ -87,9 +87,9 @@ fn claim_keys(alloc: Global, claims: &[(u32, Assumed)]) -> Result<Vec<Key>, Allo
     Ok(keys)
 }
 
-// The set types that have braces.
+/// The set types that have braces.
 #[tactic(auto, using(smv_mentions::proofs::Notes::noting))]
-fn set_names<'a>(
+pub fn set_names<'a>(
     alloc: Global,
     sets: &NameIndex,
     uses: &'a [Use],

@@ -8,16 +8,29 @@ ghost use Rattle.smv_single_assignment.specs.Held.{assigned_of, standing_of};
 ghost use Rattle.smv_look_assignments.specs.Assignments as spec;
 ghost use Rattle.smv_look_assignments.specs.Walks.{parts_met};
 
-use crate::assigned::{assigned, push_assigned};
 use crate::clashes::first_clash;
 use smv_core::flat::{FlatItem, FlatStmt, FlatText};
 use smv_core::tree::Text;
 use smv_first_fault::places::first_of;
 use smv_flatten::flatten::flatten;
 use smv_mentions::pieces::pieces;
-use smv_single_assignment::assignments::{Assignment, assignments, inside};
+use smv_single_assignment::assignments::{Assignment, assignments, inside, statement};
 use smv_single_assignment::clashes::Clash;
 use std::alloc::{AllocError, Global};
+
+// The assignments of a statement of a layer, inside these variables.
+fn assigned<'a>(
+    alloc: Global,
+    x: &'a FlatStmt,
+    layer: Option<u16>,
+    around: &[u16],
+) -> Result<Vec<Assignment<'a>>, AllocError>
+    ensures { IfOk result (λ all. map standing_of all.items ≡ standing layer around.now x.now) }
+{
+    let mut out = Vec::new(alloc);
+    statement(x, layer, around, alloc, &mut out)?;
+    Ok(out)
+}
 
 // Between two branches, or the two parts of a `default`, inside these variables.
 fn crossed(
@@ -57,7 +70,7 @@ fn meeting(
 
 // In a statement of a layer, inside these variables.
 #[cycle(meetings)]
-fn statement(
+fn in_statement(
     x: &FlatStmt,
     layer: Option<u16>,
     around: &[u16],
@@ -69,8 +82,8 @@ fn statement(
     match x {
         FlatStmt::Assign { .. } => Ok(None),
         FlatStmt::If { yes, no, .. } => {
-            let first = statement(yes.get(), layer, around, at, alloc)?;
-            let second = statement(no.get(), layer, around, at, alloc)?;
+            let first = in_statement(yes.get(), layer, around, at, alloc)?;
+            let second = in_statement(no.get(), layer, around, at, alloc)?;
             let between = crossed(yes.get(), no.get(), layer, around, at, alloc)?;
             Ok(first_of(first, first_of(second, between)))
         }
@@ -79,14 +92,14 @@ fn statement(
             first: one,
             second: other,
         } => {
-            let first = statement(one.get(), layer, around, at, alloc)?;
-            let second = statement(other.get(), layer, around, at, alloc)?;
+            let first = in_statement(one.get(), layer, around, at, alloc)?;
+            let second = in_statement(other.get(), layer, around, at, alloc)?;
             let between = crossed(one.get(), other.get(), layer, around, at, alloc)?;
             Ok(first_of(first, first_of(second, between)))
         }
         FlatStmt::Forall { var, body, .. } => {
             let inner = inside(alloc, *var, around)?;
-            statement(body.get(), layer, inner.as_slice(), at, alloc)
+            in_statement(body.get(), layer, inner.as_slice(), at, alloc)
         }
     }
 }
@@ -105,10 +118,10 @@ fn block(
     let mut found = None;
     let mut before = Vec::new(alloc);
     for part in parts {
-        let within = statement(part, layer, around, at, alloc)?;
+        let within = in_statement(part, layer, around, at, alloc)?;
         let met = meeting(before.as_slice(), part, layer, around, at, alloc)?;
         found = first_of(found, first_of(within, met));
-        push_assigned(part, layer, around, alloc, &mut before)?;
+        statement(part, layer, around, alloc, &mut before)?;
     }
     Ok(found)
 }
@@ -124,7 +137,7 @@ fn act(
 ) -> Result<Option<u32>, AllocError>
     ensures { IfOk result (λ found. found ≡ least (spec.met at layer [] x.now ++ spec.clashing at meet (map standing_of before.now) (standing layer [] x.now))) }
 {
-    let within = statement(x, layer, &[], at, alloc)?;
+    let within = in_statement(x, layer, &[], at, alloc)?;
     let met = meeting(before, x, layer, &[], at, alloc)?;
     Ok(first_of(within, met))
 }
@@ -155,7 +168,7 @@ fn push_item<'a>(
     ensures { OnOk result (map standing_of out.new.items ≡ map standing_of out.old.items ++ assigned_of x.now) }
 {
     match x {
-        FlatItem::Act { layer, act: said } => push_assigned(said, *layer, &[], alloc, out),
+        FlatItem::Act { layer, act: said } => statement(said, *layer, &[], alloc, out),
         FlatItem::Claim { .. } => Ok(()),
         FlatItem::Split { .. } => Ok(()),
         FlatItem::Using { .. } => Ok(()),

@@ -3,7 +3,6 @@
 //! For `smv_look_faults`. A reader begins with `specs/Assignments`.
 #![tactic(auto)]
 
-mod assigned;
 mod clashes;
 mod conflicts;
 

@@ -11,8 +11,8 @@ use Rattle.smv_core.specs.declared.flat.FlatExpr.{FlatExpr, Number, Read, Read',
 use Rattle.law_designs.proofs.FlatLists.{boxes}
 use Rattle.smv_look_bounds.specs.declared.doubts.Doubt.{Doubt}
 use Rattle.smv_look_bounds.specs.Narrowing.{Given}
-use Rattle.smv_look_bounds.specs.Doubts.{bound, condition_doubt, doubts, doubts_each, doubts_members, doubts_terms, read_doubts, sum_doubts, under}
-use Rattle.smv_look_bounds.specs.Held.{member_doubts, term_doubts}
+use Rattle.smv_look_bounds.specs.Doubts.{bound, condition_doubt, doubts, doubts_each, doubts_implied, doubts_members, doubts_terms, read_doubts, sum_doubts, under}
+use Rattle.smv_look_bounds.specs.Held.{implied_doubts, member_doubts, term_doubts}
 
 abbrev exprs_of : FlatExpr → (k : Count) × Row_of-FlatExpr k
 exprs_of (Read' family shape row at) = (_, row)
@@ -34,6 +34,11 @@ module _ (families : List Family) where
   unfolding doubts
   row-each vars givens n end_of-FlatExpr = refl
   row-each vars givens n (more_of-FlatExpr e rest) = ap (λ l. doubts families vars givens e ++ l) (row-each vars givens _ rest)
+
+  row-implied : (vars : List Simple) (givens : List Given) (n : _) (row : Row_of-FlatExpr n) → doubts_implied families vars givens row ≡ implied_doubts families vars givens (items-the_row-FlatExpr n row)
+  unfolding doubts
+  row-implied vars givens n end_of-FlatExpr = refl
+  row-implied vars givens n (more_of-FlatExpr e rest) = ap (λ l. doubts families vars givens e ++ l) (row-implied vars (under givens true e) _ rest)
 
   row-terms : (vars : List Simple) (givens : List Given) (n : _) (row : Row_of-FlatSigned n) → doubts_terms families vars givens row ≡ flat_map (term_doubts families vars givens) (items-the_row-FlatSigned n row)
   unfolding doubts boxes
@@ -78,9 +83,9 @@ module _ (families : List Family) where
   unfolding doubts boxes
   doubts-Or vars givens es = row-each vars (under givens false (Or es)) (exprs_of (Or es)).0 (exprs_of (Or es)).1 ∙ ap (flat_map (doubts families vars (under givens false (Or es)))) (items_hidden-the_row-FlatExpr-0 es)
 
-  pub doubts-Implies : (vars : List Simple) (givens : List Given) (es : List FlatExpr) → doubts families vars givens (Implies es) ≡ flat_map (doubts families vars givens) es
+  pub doubts-Implies : (vars : List Simple) (givens : List Given) (es : List FlatExpr) → doubts families vars givens (Implies es) ≡ implied_doubts families vars givens es
   unfolding doubts boxes
-  doubts-Implies vars givens es = row-each vars givens (exprs_of (Implies es)).0 (exprs_of (Implies es)).1 ∙ ap (flat_map (doubts families vars givens)) (items_hidden-the_row-FlatExpr-0 es)
+  doubts-Implies vars givens es = row-implied vars givens (exprs_of (Implies es)).0 (exprs_of (Implies es)).1 ∙ ap (implied_doubts families vars givens) (items_hidden-the_row-FlatExpr-0 es)
 
   pub doubts-Iff : (vars : List Simple) (givens : List Given) (l r : FlatExpr) → doubts families vars givens (Iff l r) ≡ doubts families vars givens l ++ doubts families vars givens r
   unfolding doubts boxes

@@ -127,7 +127,7 @@ module _ (families : List Family) where
     value_doubt over e = if is_fixed e then [] else value_outside over (place e) (slack givens (is_steady e)) (bounds families vars givens e)
 
   unfoldable mutual
-    -- the sums, the indexes and the conditions of `?:` in an expression; a part of an `&` is looked at as if the `&` held, one of an `|` as if it did not, since otherwise it does not count
+    -- the sums, the indexes and the conditions of `?:` in an expression; a part of an `&` is looked at as if the `&` held, one of an `|` as if it did not, one of an `->` as if those before it held, since otherwise it does not count
     pub doubts : List Simple → List Given → FlatExpr → List Doubt
     doubts vars givens (Number value at) = []
     doubts vars givens (Read' family shape indexes at) = read_doubts vars givens family (items-the_row-FlatExpr _ indexes) ++ doubts_each vars givens indexes
@@ -137,7 +137,7 @@ module _ (families : List Family) where
     doubts vars givens (Not' shape (one_flat_expr e) at) = doubts vars givens e
     doubts vars givens (And' shape parts) = doubts_each vars (under givens true (And' shape parts)) parts
     doubts vars givens (Or' shape parts) = doubts_each vars (under givens false (Or' shape parts)) parts
-    doubts vars givens (Implies' shape parts) = doubts_each vars givens parts
+    doubts vars givens (Implies' shape parts) = doubts_implied vars givens parts
     doubts vars givens (Iff' l (one_flat_expr left) r (one_flat_expr right)) = doubts vars givens left ++ doubts vars givens right
     doubts vars givens (Compare' op l (one_flat_expr left) r (one_flat_expr right)) = doubts vars givens left ++ doubts vars givens right
     doubts vars givens (Within' l (one_flat_expr left) r (one_flat_expr set)) = doubts vars givens left ++ doubts vars givens set
@@ -153,6 +153,10 @@ module _ (families : List Family) where
     pub doubts_each : {m : _} → List Simple → List Given → Row_of-FlatExpr m → List Doubt
     doubts_each vars givens end_of-FlatExpr = []
     doubts_each vars givens (more_of-FlatExpr e rest) = doubts vars givens e ++ doubts_each vars givens rest
+
+    pub doubts_implied : {m : _} → List Simple → List Given → Row_of-FlatExpr m → List Doubt
+    doubts_implied vars givens end_of-FlatExpr = []
+    doubts_implied vars givens (more_of-FlatExpr e rest) = doubts vars givens e ++ doubts_implied vars (under givens true e) rest
 
     pub doubts_terms : {m : _} → List Simple → List Given → Row_of-FlatSigned m → List Doubt
     doubts_terms vars givens end_of-FlatSigned = []

@@ -1,5 +1,5 @@
 -- The words of the definitions for lists, and for what the program holds.
-use Rattle.std.specs.Prelude.{List, [], ◌∷◌, map, Option, Bool, true}
+use Rattle.std.specs.Prelude.{List, [], ◌∷◌, ◌++◌, map, Option, Bool, true}
 use Rattle.smv_core.specs.declared.flat.Simple.{Simple}
 use Rattle.smv_core.specs.declared.flat.Family.{Family}
 use Rattle.smv_core.specs.declared.flat.FlatExpr.{FlatExpr}
@@ -13,7 +13,7 @@ use Rattle.smv_look_bounds.specs.declared.doubts.Doubt.{Doubt}
 use Rattle.smv_look_bounds.specs.Narrowing.{Given, Target, element, variable, nothing, index_in, narrow}
 use Rattle.smv_look_bounds.specs.Bounds.{added, bounds}
 use Rattle.smv_look_bounds.specs.Constants.{is_constant}
-use Rattle.smv_look_bounds.specs.Doubts.{doubts, values}
+use Rattle.smv_look_bounds.specs.Doubts.{doubts, under, values}
 
 abbrev pub target_of : Held → Target
 target_of (Element family indexes) = element family (map index_in indexes.now)
@@ -40,6 +40,11 @@ member_constant (SpanOf span at) = true
 
 abbrev pub term_constant : FlatSigned → Bool
 term_constant s = is_constant (out-FlatSigned s).of
+
+-- what is doubted of expressions each of which stands under those before it
+abbrev pub implied_doubts : List Family → List Simple → List Given → List FlatExpr → List Doubt
+implied_doubts families vars givens [] = []
+implied_doubts families vars givens (e ∷ es) = doubts families vars givens e ++ implied_doubts families vars (under givens true e) es
 
 -- what is doubted of a term and of a member
 abbrev pub term_doubts : List Family → List Simple → List Given → FlatSigned → List Doubt

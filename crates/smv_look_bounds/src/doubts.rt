@@ -1,7 +1,7 @@
 // What is doubted of expressions.
 ghost use Rattle.std.specs.Prelude.{◌≡◌, ◌++◌, flat_map, map, IfOk, OnOk};
 ghost use Rattle.smv_look_bounds.specs.Doubts as spec;
-ghost use Rattle.smv_look_bounds.specs.Held.{given_of, member_doubts, term_doubts};
+ghost use Rattle.smv_look_bounds.specs.Held.{given_of, implied_doubts, member_doubts, term_doubts};
 
 use crate::narrowing::Given;
 use crate::numbers::Bounds;
@@ -124,7 +124,7 @@ pub(crate) fn push_doubts<'a>(
             )
         }
         FlatExpr::Implies { parts } => {
-            push_each(out, alloc, families, vars, givens, parts.as_slice())
+            push_implied(out, alloc, families, vars, givens, parts.as_slice())
         }
         FlatExpr::Iff { left, right } => {
             push_doubts(out, alloc, families, vars, givens, left.get())?;
@@ -267,6 +267,30 @@ pub(crate) fn push_each<'a>(
 {
     for x in parts {
         push_doubts(out, alloc, families, vars, givens, x)?;
+    }
+    Ok(())
+}
+
+// Notes that of expressions each of which stands under those before it.
+#[cycle(expressions)]
+#[tactic(auto, using(crate::proofs::Listing::listing))]
+fn push_implied<'a>(
+    out: &mut Vec<Doubt>,
+    alloc: Global,
+    families: &[Family],
+    vars: &[Simple],
+    givens: &[Given<'a>],
+    parts: &'a [FlatExpr],
+) -> Result<(), AllocError>
+    ensures { OnOk result (out.new.items ≡ out.old.items ++ implied_doubts families.now vars.now (map given_of givens.now) parts.now) }
+{
+    let mut inner = Vec::from_slice(alloc, givens)?;
+    for x in parts {
+        push_doubts(out, alloc, families, vars, inner.as_slice(), x)?;
+        inner.push(Given {
+            cond: x,
+            holds: true,
+        })?;
     }
     Ok(())
 }

@@ -8,17 +8,16 @@ use Rattle.law_lists.proofs.Numbers.{nat_eq-is}
 use Rattle.smv_core.specs.declared.flat.Family.{Family}
 use Rattle.smv_core.specs.declared.flat.Cell.{Cell}
 use Rattle.smv_core.specs.declared.flat.Design.{Design}
-use Rattle.law_designs.specs.Loops.{Edge, same_indexes, same_cell, hold_a_cycle, edges_of, in_order, undelayed_in, closing, looping}
-use Rattle.law_designs.specs.LoopLaws.{AreFalling}
+use Rattle.law_designs.specs.Loops.{Edge, same_indexes, same_cell, hold_a_cycle, edges_of, undelayed_in, closing, looping}
 use Rattle.law_designs.specs.Reading.{Reference, Reading}
 use Rattle.law_designs.specs.WholeText.{is_one_layer}
 use Rattle.law_designs.proofs.Descents.{one-is, no_cycle}
 use Rattle.law_designs.proofs.Orders.{order, indexes_themselves}
 use Rattle.smv_loops.specs.Cells.{froms, tos, reads_of}
 use Rattle.smv_loops.specs.Edges.{edges_at}
+use Rattle.smv_loops.proofs.AnyOrderLaws.{falling-in, in-ordered}
 use Rattle.smv_loops.proofs.CycleLaws.{falling-each}
 use Rattle.smv_loops.proofs.Members.{In, in-either, any-of, in-mapped, in-flat_mapped}
-use Rattle.smv_loops.proofs.SortLaws.{in-put}
 use Rattle.smv_look_loops.specs.Paths.{Reads, Path, assignments, IsLoopAt}
 use Rattle.smv_look_loops.proofs.EdgeLaws.{contains-in}
 use Rattle.smv_look_loops.proofs.ShareLaws.{any-found, eq-true}
@@ -42,11 +41,6 @@ cell-is a b e =
 
 cell-itself : (c : Cell) → same_cell c c ≡ true
 cell-itself c = and_both (eq-true c.family c.family refl) (indexes_themselves c.indexes)
-
-falling-in : (rank : Cell → ℕ) (edges : List Edge) → AreFalling rank edges → (e : Edge) → In e edges → rank e.1 < rank e.0
-falling-in rank [] f e i = absurd i
-falling-in rank (x ∷ edges) f e (inl same) = subst (λ (y : Edge). rank y.1 < rank y.0) same f.0
-falling-in rank (x ∷ edges) f e (inr i) = falling-in rank edges f.1 e i
 
 none-of : {X : Type 0} (test : X → Bool) (x : X) (xs : List X) → list_any test xs ≡ false → In x xs → test x ≡ false
 none-of test x xs none i = at (test x) refl
@@ -179,14 +173,6 @@ module _ (families : List Family) (all : List Reading) where
       path-found none cycle = let r = order edges none in found r.0 (falling-in r.0 edges r.1) cycle
 
 -- ---- the assignments of a design
-
-in-ordered : (x : Reading) (xs : List Reading) → In x (in_order xs) → In x xs
-in-ordered x [] i = i
-in-ordered x (a ∷ xs) i = from (in-put a x (in_order xs) i) (in-ordered x xs)
-  where
-    from : (a ≡ x) ⊎ In x (in_order xs) → (In x (in_order xs) → In x xs) → In x (a ∷ xs)
-    from (inl e) rest = inl e
-    from (inr i) rest = inr (rest i)
 
 module _ (d : Design) (at : ℕ) (all : List Reading) where
   abbrev Found : Type 0

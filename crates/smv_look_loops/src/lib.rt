@@ -4,7 +4,6 @@
 //! all assignments, and `graph_loops` searches it.
 #![tactic(auto)]
 
-mod base;
 pub mod laws;
 mod paths;
 mod shares;

@@ -5,11 +5,11 @@ ghost use Rattle.graph_loops.specs.Walks.{lists, IsShortest};
 ghost use Rattle.smv_look_loops.specs.Graphs as spec;
 ghost use Rattle.smv_look_loops.specs.Paths.{IsLoopAt};
 
-use crate::base::undelayed;
 use crate::shares::first_place;
 use graph_loops::edges::Edge;
 use graph_loops::search::shortest_loop;
 use smv_core::flat::{Design, Family};
+use smv_loops::base::undelayed;
 use smv_loops::reading::Held;
 use std::alloc::{AllocError, Global};
 

@@ -1,26 +1,13 @@
 // Where an assignment reads a cell that another concerns.
 ghost use Rattle.std.specs.Prelude.{◌≡◌, map};
-ghost use Rattle.smv_core.specs.Assignments.{fits};
-ghost use Rattle.smv_core.specs.Values.{number};
 ghost use Rattle.smv_indexes.specs.Indexes.{index_of};
 ghost use Rattle.smv_loops.specs.Held.{index_in, reading_of, reference_of};
 ghost use Rattle.smv_look_loops.specs.Shares as spec;
 
 use smv_core::flat::{Family, FlatExpr, Simple};
 use smv_indexes::{Index, known};
-use smv_loops::cells::is_constant;
+use smv_loops::cells::{does_fit, is_constant};
 use smv_loops::reading::{Held, Read};
-
-// A number fits an index.
-fn does_fit(index: Index, k: usize) -> bool
-    ensures { result ≡ fits (index_of index) (number k) }
-{
-    match index {
-        Index::Fixed { value: Some(value) } => usize::from(value) == k,
-        Index::Fixed { value: None } => false,
-        _ => true,
-    }
-}
 
 // It fits both.
 fn do_fit(i: Index, j: Index, k: usize) -> bool

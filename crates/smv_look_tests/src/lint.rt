@@ -70,6 +70,12 @@ const ROWS: &[Row] = &[
         1,
         "x at line 5 column 7: this condition is made of constants alone, so it is the same at each time\nz at line 6 column 81: this condition is made of constants alone, so it is the same at each time\n",
     ),
+    (
+        "lint",
+        "module main(n, m) {\n  input n : 0..7;\n  input m : 0..9;\n  v : array 0..3 of boolean;\n  x, y, z, u : boolean;\n  forall (i in 0..3) next(v[i]) := ~v[i];\n  x := n < 4 -> v[n];\n  y := v[n] -> n < 4;\n  z := n > 0 -> n < 5 -> v[n - 1];\n  u := ~(n >= 4) -> v[n] & v[m];\n  ok : assert G (x & y & z & u);\n}\n",
+        1,
+        "y at line 8 column 10: by types and conditions this is within 0..7; as an index outside 0..3 it makes what is read Undefined\nu at line 10 column 30: by types and conditions this is within 0..9; as an index outside 0..3 it makes what is read Undefined\n",
+    ),
 ];
 
 #[test]

@@ -13,9 +13,11 @@ ghost use Rattle.smv_look_uses.specs.Chosen as spec;
 ghost use Rattle.smv_look_uses.specs.Chosen.{same_before};
 
 use crate::firsts::{push_before, push_names_before};
-use crate::keys::{claim_keys, family_keys, leaf_names, map_keys, own_map, set_names};
+use crate::leaves::leaf_names;
+use smv_choices::own::own_map;
 use smv_choices::readings::{Proved, Reading, all_readings};
 use smv_choices::tables::{Tables, make_tables};
+use smv_choices::twice::{claim_keys, family_keys, map_keys, set_names};
 use smv_core::flat::{Assumed, Design, Leaf, Pick, Unit};
 use smv_core::tree::{Text, Use};
 use smv_design::design;

@@ -7,11 +7,9 @@ ghost use Rattle.smv_references.specs.Again as again;
 ghost use Rattle.smv_references.specs.Again.{placed};
 ghost use Rattle.smv_look_uses.specs.Chosen.{same_before};
 
+use smv_choices::twice::Key;
 use smv_core::Name;
 use std::alloc::{AllocError, Global};
-
-/// One number or two.
-pub(crate) type Key = (u16, Option<u16>);
 
 // Whether two layers are one, or both are none.
 fn are_one(a: Option<u16>, b: Option<u16>) -> bool
@@ -26,18 +24,14 @@ fn are_one(a: Option<u16>, b: Option<u16>) -> bool
 }
 
 // Whether two keys are the same.
-fn same_key(a: Key, b: Key) -> bool
+fn same_key(a: (u16, Option<u16>), b: (u16, Option<u16>)) -> bool
     ensures { result ≡ again.same_key a b }
 {
     a.0 == b.0 && are_one(a.1, b.1)
 }
 
 // The place of an earlier key, where it is the same.
-fn push_if_same(
-    out: &mut Vec<u32>,
-    earlier: (u32, Key),
-    later: (u32, Key),
-) -> Result<(), AllocError>
+fn push_if_same(out: &mut Vec<u32>, earlier: Key, later: Key) -> Result<(), AllocError>
     ensures { OnOk result (out.new.items ≡ out.old.items ++ place_if (again.same_key earlier.1 later.1) earlier.0) }
 {
     if same_key(earlier.1, later.1) {
@@ -48,7 +42,7 @@ fn push_if_same(
 
 // The places of these keys that are the same as another one.
 #[tactic(auto, using(smv_mentions::proofs::Notes::noting))]
-fn push_same(out: &mut Vec<u32>, before: &[(u32, Key)], later: (u32, Key)) -> Result<(), AllocError>
+fn push_same(out: &mut Vec<u32>, before: &[Key], later: Key) -> Result<(), AllocError>
     ensures { OnOk result (out.new.items ≡ out.old.items ++ flat_map (λ y. place_if (again.same_key y.1 later.1) y.0) before.now) }
 {
     for earlier in before {
@@ -58,12 +52,7 @@ fn push_same(out: &mut Vec<u32>, before: &[(u32, Key)], later: (u32, Key)) -> Re
 }
 
 // The same, where that one stands at a place.
-fn push_at(
-    out: &mut Vec<u32>,
-    before: &[(u32, Key)],
-    later: (u32, Key),
-    at: u32,
-) -> Result<(), AllocError>
+fn push_at(out: &mut Vec<u32>, before: &[Key], later: Key, at: u32) -> Result<(), AllocError>
     ensures { OnOk result (out.new.items ≡ out.old.items ++ (if nat_eq later.0 at then flat_map (λ y. place_if (again.same_key y.1 later.1) y.0) before.now else [])) }
 {
     if later.0 == at {
@@ -77,7 +66,7 @@ fn push_at(
 pub(crate) fn push_before(
     alloc: Global,
     out: &mut Vec<u32>,
-    keys: &[(u32, Key)],
+    keys: &[Key],
     at: u32,
 ) -> Result<(), AllocError>
     ensures { OnOk result (out.new.items ≡ out.old.items ++ same_before at again.same_key [] keys.now) }

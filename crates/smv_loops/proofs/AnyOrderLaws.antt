@@ -13,7 +13,7 @@ use Rattle.smv_loops.proofs.Members.{In, in-flat_map, in-flat_mapped}
 use Rattle.smv_loops.proofs.SortLaws.{in-put}
 use Rattle.smv_loops.proofs.CycleLaws.{falling-each}
 
-in-ordered : (x : Reading) (xs : List Reading) → In x (in_order xs) → In x xs
+pub in-ordered : (x : Reading) (xs : List Reading) → In x (in_order xs) → In x xs
 in-ordered x [] i = i
 in-ordered x (a ∷ xs) i = from (in-put a x (in_order xs) i) (in-ordered x xs)
   where
@@ -21,7 +21,7 @@ in-ordered x (a ∷ xs) i = from (in-put a x (in_order xs) i) (in-ordered x xs)
     from (inl e) rest = inl e
     from (inr i) rest = inr (rest i)
 
-falling-in : (rank : Cell → ℕ) (edges : List Edge) → AreFalling rank edges → (e : Edge) → In e edges → rank e.1 < rank e.0
+pub falling-in : (rank : Cell → ℕ) (edges : List Edge) → AreFalling rank edges → (e : Edge) → In e edges → rank e.1 < rank e.0
 falling-in rank [] f e i = absurd i
 falling-in rank (x ∷ edges) f e (inl same) = subst (λ (y : Edge). rank y.1 < rank y.0) same f.0
 falling-in rank (x ∷ edges) f e (inr i) = falling-in rank edges f.1 e i

@@ -9,7 +9,7 @@ use smv_core::flat::{Def, Design};
 use std::alloc::{AllocError, Global};
 
 /// The `:=` and `init` assignments of the base definitions, one definition behind another.
-pub(crate) fn undelayed<'a>(alloc: Global, design: &'a Design) -> Result<Vec<Held<'a>>, AllocError>
+pub fn undelayed<'a>(alloc: Global, design: &'a Design) -> Result<Vec<Held<'a>>, AllocError>
     ensures { IfOk result (λ held. map reading_of held.items ≡ flat_map undelayed_of (filter (spec.is_base design.now) design.now.defs)) }
 {
     let firsts = firsts(alloc, design)?;

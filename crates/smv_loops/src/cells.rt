@@ -279,7 +279,8 @@ fn numbers_at(
     numbers(out, over, more, next)
 }
 
-fn does_fit(index: Index, k: usize) -> bool
+/// An index may have this value.
+pub fn does_fit(index: Index, k: usize) -> bool
     ensures { result ≡ fits (index_of index) (number k) }
 {
     match index {

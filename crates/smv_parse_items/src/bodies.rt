@@ -140,7 +140,7 @@ fn put_after(vars: Option<Seq<Word>>, name: Option<Word>) -> Result<Option<Seq<W
 
 /// The parts behind a name, and the names where each part is one in brackets.
 #[tactic(auto, using(crate::proofs::Marked::marked_end, crate::proofs::Marked::marked_halt, crate::proofs::Marked::marked_go_on, crate::proofs::Marked::marked_shrink))]
-fn marked_parts(
+pub fn marked_parts(
     alloc: Global,
     levels: u8,
     tokens: &[Token],
@@ -201,7 +201,7 @@ fn path_of(name: Word, more: Seq<Part>) -> Result<Path, Stop>
 
 /// ':=' Expr ';' behind a path.
 #[tactic(auto, unfolding(law_grammar::specs::Items::read_assigned))]
-fn assigned(
+pub fn assigned(
     alloc: Global,
     levels: u8,
     name: Word,
@@ -418,7 +418,7 @@ fn instance(
 
 /// An instance, where a parenthesis follows a name, and else a declaration.
 #[tactic(auto, unfolding(law_grammar::specs::Items::read_of_names))]
-fn of_names(
+pub fn of_names(
     alloc: Global,
     levels: u8,
     names: Seq<Word>,
@@ -434,7 +434,8 @@ fn of_names(
     declared(alloc, levels, Role::Plain, names, at, tokens)
 }
 
-fn put_before(name: Word, more: Seq<Word>) -> Result<Seq<Word>, Stop>
+/// A name before names.
+pub fn put_before(name: Word, more: Seq<Word>) -> Result<Seq<Word>, Stop>
     ensures made { IfOk result (λ made. made ≡ name ∷ more) }
     ensures stop { IfErr result (λ stop. stop ≡ Stop.OutOfMemory) }
 {
@@ -476,7 +477,7 @@ fn comma_name(alloc: Global, tokens: &[Token]) -> Result<(Word, &[Token]), Stop>
 
 /// { ',' name }
 #[tactic(auto, using(crate::proofs::Loops::names_end, crate::proofs::Loops::names_halt, crate::proofs::Loops::names_go_on, crate::proofs::Loops::names_shrink, smv_parse_expressions::proofs::Loops::not_begun))]
-fn more_names(alloc: Global, tokens: &[Token]) -> Result<(Seq<Word>, &[Token]), Stop>
+pub fn more_names(alloc: Global, tokens: &[Token]) -> Result<(Seq<Word>, &[Token]), Stop>
     ensures found { IfOk result (λ found. loop (begins (exactly comma ∷ [])) (bind (take (a_token comma)) (λ at. take a_name)) tokens.now ≡ Ok (found.0, found.1.now)) }
     ensures stop { IfErr result (λ stop. StopsAs stop (loop (begins (exactly comma ∷ [])) (bind (take (a_token comma)) (λ at. take a_name)) tokens.now)) }
 {
@@ -533,11 +534,7 @@ pub(crate) fn named_body(
 
 /// A declaration with a role.
 #[tactic(auto, unfolding(law_grammar::specs::Items::read_with_role))]
-pub(crate) fn with_role(
-    alloc: Global,
-    levels: u8,
-    tokens: &[Token],
-) -> Result<(Item, &[Token]), Stop>
+pub fn with_role(alloc: Global, levels: u8, tokens: &[Token]) -> Result<(Item, &[Token]), Stop>
     ensures found { IfOk result (λ found. read_with_role levels tokens.now ≡ Ok (found.0, found.1.now)) }
     ensures stop { IfErr result (λ stop. StopsAs stop (read_with_role levels tokens.now)) }
 {

@@ -74,7 +74,7 @@ fn block(alloc: Global, levels: u8, tokens: &[Token]) -> Result<(Item, &[Token])
 }
 
 /// A statement that begins with a reserved word, as an item.
-fn act(alloc: Global, levels: u8, tokens: &[Token]) -> Result<(Item, &[Token]), Stop>
+pub fn act(alloc: Global, levels: u8, tokens: &[Token]) -> Result<(Item, &[Token]), Stop>
     ensures found { IfOk result (λ found. bind (read_worded levels (stmt_readers levels)) (λ x. pure (Item.Act x)) tokens.now ≡ Ok (found.0, found.1.now)) }
     ensures stop { IfErr result (λ stop. StopsAs stop (bind (read_worded levels (stmt_readers levels)) (λ x. pure (Item.Act x)) tokens.now)) }
 {

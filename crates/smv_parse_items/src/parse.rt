@@ -22,7 +22,7 @@ const UNEXPECTED: u8 = 5;
 const TOO_DEEP: u8 = 6;
 
 /// Where the last tokens begin, as many as are left, or the length of the text where none is.
-fn place_of(left: usize, end: u32, tokens: &[Token]) -> u32
+pub fn place_of(left: usize, end: u32, tokens: &[Token]) -> u32
     requires { left ≤ length tokens.now }
     ensures { result ≡ place_of_rest end (drop (length tokens.now - left) tokens.now) }
 {
@@ -33,7 +33,8 @@ fn place_of(left: usize, end: u32, tokens: &[Token]) -> u32
     }
 }
 
-fn unexpected(at: u32) -> Refusal
+/// Fault 5 at an offset.
+pub fn unexpected(at: u32) -> Refusal
     ensures { result ≡ fault 5 at }
 {
     Refusal::Fault(Fault {
@@ -42,7 +43,8 @@ fn unexpected(at: u32) -> Refusal
     })
 }
 
-fn too_deep(at: u32) -> Refusal
+/// Fault 6 at an offset.
+pub fn too_deep(at: u32) -> Refusal
     ensures { result ≡ fault 6 at }
 {
     Refusal::Fault(Fault {

@@ -27,7 +27,7 @@ use smv_parse_statements::ahead::next_is_name_and_sign;
 use std::alloc::Global;
 
 /// [ name { ',' name } ]
-pub(crate) fn names_or_none(alloc: Global, tokens: &[Token]) -> Result<(Seq<Word>, &[Token]), Stop>
+pub fn names_or_none(alloc: Global, tokens: &[Token]) -> Result<(Seq<Word>, &[Token]), Stop>
     ensures found { IfOk result (λ found. read_separated_or_none (any_name ∷ []) (take a_name) tokens.now ≡ Ok (found.0, found.1.now)) }
     ensures stop { IfErr result (λ stop. StopsAs stop (read_separated_or_none (any_name ∷ []) (take a_name) tokens.now)) }
 {
@@ -278,11 +278,7 @@ fn references(alloc: Global, levels: u8, tokens: &[Token]) -> Result<(Seq<Ref>, 
 
 /// 'using' uses 'prove' references ';'
 #[tactic(auto, unfolding(law_grammar::specs::References::read_using))]
-pub(crate) fn using_item(
-    alloc: Global,
-    levels: u8,
-    tokens: &[Token],
-) -> Result<(Item, &[Token]), Stop>
+pub fn using_item(alloc: Global, levels: u8, tokens: &[Token]) -> Result<(Item, &[Token]), Stop>
     ensures found { IfOk result (λ found. read_using levels (item_readers levels).ref tokens.now ≡ Ok (found.0, found.1.now)) }
     ensures stop { IfErr result (λ stop. StopsAs stop (read_using levels (item_readers levels).ref tokens.now)) }
 {

@@ -36,7 +36,7 @@ fn extent(tokens: &[Token]) -> Result<((Option<Span>, u32), &[Token]), Stop>
 
 /// 'scalarset' name ( 'undefined' | number '..' number ) ';'
 #[tactic(auto, unfolding(law_grammar::specs::Items::read_scalarset, law_grammar::specs::Items::read_extent))]
-fn scalarset(alloc: Global, levels: u8, tokens: &[Token]) -> Result<(Top, &[Token]), Stop>
+pub fn scalarset(alloc: Global, levels: u8, tokens: &[Token]) -> Result<(Top, &[Token]), Stop>
     ensures found { IfOk result (λ found. read_scalarset levels (item_readers levels) tokens.now ≡ Ok (found.0, found.1.now)) }
     ensures stop { IfErr result (λ stop. StopsAs stop (read_scalarset levels (item_readers levels) tokens.now)) }
 {
@@ -57,7 +57,7 @@ fn scalarset(alloc: Global, levels: u8, tokens: &[Token]) -> Result<(Top, &[Toke
 
 /// 'ordset' name 'undefined' ';'
 #[tactic(auto, unfolding(law_grammar::specs::Items::read_ordset))]
-fn ordset(alloc: Global, levels: u8, tokens: &[Token]) -> Result<(Top, &[Token]), Stop>
+pub fn ordset(alloc: Global, levels: u8, tokens: &[Token]) -> Result<(Top, &[Token]), Stop>
     ensures found { IfOk result (λ found. read_ordset levels (item_readers levels) tokens.now ≡ Ok (found.0, found.1.now)) }
     ensures stop { IfErr result (λ stop. StopsAs stop (read_ordset levels (item_readers levels) tokens.now)) }
 {
@@ -78,7 +78,7 @@ fn ordset(alloc: Global, levels: u8, tokens: &[Token]) -> Result<(Top, &[Token])
 
 /// 'typedef' name Type ';'
 #[tactic(auto, unfolding(law_grammar::specs::Items::read_typedef))]
-fn typedef(alloc: Global, levels: u8, tokens: &[Token]) -> Result<(Top, &[Token]), Stop>
+pub fn typedef(alloc: Global, levels: u8, tokens: &[Token]) -> Result<(Top, &[Token]), Stop>
     ensures found { IfOk result (λ found. read_typedef levels (item_readers levels) tokens.now ≡ Ok (found.0, found.1.now)) }
     ensures stop { IfErr result (λ stop. StopsAs stop (read_typedef levels (item_readers levels) tokens.now)) }
 {

@@ -37,10 +37,10 @@ pub fn inside(alloc: Global, var: u16, around: &[u16]) -> Result<Vec<u16>, Alloc
     Ok(inner)
 }
 
-// The assignments of a statement of a layer, inside these variables.
+/// Puts the assignments of a statement of a layer, inside these variables, at the end.
 #[cycle(statements)]
 #[tactic(auto, using(smv_mentions::proofs::Notes::noting, crate::proofs::StandingLaws::equations))]
-fn statement<'a>(
+pub fn statement<'a>(
     x: &'a FlatStmt,
     layer: Option<u16>,
     around: &[u16],

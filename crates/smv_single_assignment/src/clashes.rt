@@ -75,7 +75,7 @@ fn are_mixed(a: &Assignment, b: &Assignment) -> bool
 }
 
 /// Whether an earlier and a later assignment clash.
-pub(crate) fn do_clash(by: Clash, a: &Assignment, b: &Assignment) -> bool
+pub fn do_clash(by: Clash, a: &Assignment, b: &Assignment) -> bool
     ensures { result ≡ clash_by by.entry (standing_of a.now) (standing_of b.now) }
 {
     match by {
