@@ -1,0 +1,4 @@
+pub mod Going
+pub mod Expressions
+pub mod Formulas
+pub mod Spelled
