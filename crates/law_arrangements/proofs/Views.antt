@@ -85,7 +85,7 @@ module _ (c : PosedCase) (is : IsCase c) where
   abbrev values : AbsElement → List Place
   values x = values_of c.problem.world x
 
-  put_state : (x : AbsElement) (v : Place) (a : AbsState) → Has c.elements x → Has (values x) v → IsState c a → IsState c (put x v a)
+  pub put_state : (x : AbsElement) (v : Place) (a : AbsState) → Has c.elements x → Has (values x) v → IsState c a → IsState c (put x v a)
   put_state x v a h of state = record {
     is_somewhere = λ family f e ps k. at family f e ps k (same_element (element family ps) x) refl;
     is_unread = λ family ps k. beside family ps k (same_element (element family ps) x) refl;
@@ -103,13 +103,13 @@ module _ (c : PosedCase) (is : IsCase c) where
           absurd (clash (ap (λ (keeps : ℕ → List Place → Bool). keeps family ps) is.are_kept ∙ any-found (same_element (element family ps)) h same) k)
       beside family ps k false same = state.is_unread family ps k
 
-  put_self : (x : AbsElement) (v : Place) (a : AbsState) → put x v a x.family x.indexes ≡ v
+  pub put_self : (x : AbsElement) (v : Place) (a : AbsState) → put x v a x.family x.indexes ≡ v
   put_self x v a = rw (same_element-itself x) refl
 
-  put_other : (x : AbsElement) (v : Place) (a : AbsState) (family : ℕ) (ps : List Place) → same_element (element family ps) x ≡ false → put x v a family ps ≡ a family ps
+  pub put_other : (x : AbsElement) (v : Place) (a : AbsState) (family : ℕ) (ps : List Place) → same_element (element family ps) x ≡ false → put x v a family ps ≡ a family ps
   put_other x v a family ps e = rw e refl
 
-  put_same : (x : AbsElement) (a : AbsState) → put x (a x.family x.indexes) a ≡ a
+  pub put_same : (x : AbsElement) (a : AbsState) → put x (a x.family x.indexes) a ≡ a
   put_same x a = λ i family ps. at family ps (same_element (element family ps) x) refl i
     where
       at : (family : ℕ) (ps : List Place) (t : Bool) → same_element (element family ps) x ≡ t → cond t (a x.family x.indexes) (a family ps) ≡ a family ps
@@ -117,13 +117,13 @@ module _ (c : PosedCase) (is : IsCase c) where
       at family ps false e = refl
 
   -- the value of an element is one of its type
-  own_value : (x : AbsElement) (a : AbsState) → Has c.elements x → IsState c a → Has (values x) (a x.family x.indexes)
+  pub own_value : (x : AbsElement) (a : AbsState) → Has c.elements x → IsState c a → Has (values x) (a x.family x.indexes)
   own_value x a h state =
       let r = is.have_values x h in
       subst (λ (places : List Place). Has places (a x.family x.indexes)) (sym (ap (values_in c.problem.world) r.1))
       (state.is_somewhere x.family r.0 r.1 x.indexes (ap (λ (keeps : ℕ → List Place → Bool). keeps x.family x.indexes) is.are_kept ∙ any-found (same_element (element x.family x.indexes)) h (same_element-itself x)))
 
-  has_head : {X : Type 0} (xs : List X) (d v : X) → Has xs v → Has xs (get_or xs 0 d)
+  pub has_head : {X : Type 0} (xs : List X) (d v : X) → Has xs v → Has xs (get_or xs 0 d)
   has_head [] d v h = elim h [ ]
   has_head (x ∷ xs) d v h = first
 
@@ -133,7 +133,7 @@ module _ (c : PosedCase) (is : IsCase c) where
       ap (λ (b : AbsState). list_all (is_met c.problem old b) (those_of demands x)) (sym (put_same x a))
       ∙ (Has-from_filter (λ v. list_all (is_met c.problem old (put x v a)) (those_of demands x)) (values x) h).1
 
-  is_allowed : (demands : List Demanded) (old : Option AbsState) (a : AbsState) (x : AbsElement) → Has c.elements x → IsState c a → list_all (is_met c.problem old a) (those_of demands x) ≡ true → Has (allowed c demands old a x) (a x.family x.indexes)
+  pub is_allowed : (demands : List Demanded) (old : Option AbsState) (a : AbsState) (x : AbsElement) → Has c.elements x → IsState c a → list_all (is_met c.problem old a) (those_of demands x) ≡ true → Has (allowed c demands old a x) (a x.family x.indexes)
   is_allowed demands old a x h state met =
       Has-filter (λ v. list_all (is_met c.problem old (put x v a)) (those_of demands x)) (own_value x a h state)
       (ap (λ (b : AbsState). list_all (is_met c.problem old b) (those_of demands x)) (put_same x a) ∙ met)
@@ -185,7 +185,7 @@ module _ (c : PosedCase) (is : IsCase c) where
 
   -- ---- determined elements
 
-  agree_itself : (xs : List AbsElement) (a : AbsState) → AgreeBeside xs a a
+  pub agree_itself : (xs : List AbsElement) (a : AbsState) → AgreeBeside xs a a
   agree_itself xs a family ps e = refl
 
   abbrev pub Determined : List AbsElement → List AbsElement → List AbsElement → AbsElement → Type 0

@@ -1,10 +1,11 @@
--- Orders of all bits of a case, and the arrangement over one: no element without bits.
+-- Orders of all bits of a case, and the arrangements over one: with no element without bits, and with elements that are worked out.
 use Rattle.std.specs.Prelude.{◌≡◌, ℕ, ◌<◌, List, [], length, get_or, Some, nat_eq}
 use Rattle.std.specs.List.Sorted.{IsPermutation}
 use Rattle.smv_core.specs.Values.{numbers_from}
 use Rattle.law_obligations.specs.Sets.{Has}
 use Rattle.law_obligations.specs.Outlines.{place_of}
 use Rattle.law_obligations.specs.Readings.{PosedCase, state_bits}
+use Rattle.law_obligations.specs.Cones.{AbsElement}
 use Rattle.law_arrangements.specs.Arrangements.{Arrangement, IsArrangement}
 
 -- each of so many bits stands in it exactly once
@@ -14,6 +15,10 @@ IsOrder bits order = IsPermutation (numbers_from 0 bits) order
 -- the arrangement in which each element has bits, and they stand in this order
 abbrev pub arranged : List ℕ → Arrangement
 arranged order = record { determined = []; idle = []; order = order }
+
+-- the arrangement in which these elements are worked out, one after the other, and the bits of all elements stand in this order
+abbrev pub wired : List ℕ → List AbsElement → Arrangement
+wired order done = record { determined = done; idle = []; order = order }
 
 -- an order has as many places as there are bits
 abbrev pub OrdersAreLong : Type 0

@@ -1,5 +1,5 @@
 -- What a search found, in another store and of the lists of a case.
-use Rattle.std.proofs.Common.{◌≡◌, ℕ, sym, ap, subst, ◌∙◌, List, map}
+use Rattle.std.proofs.Common.{◌≡◌, ℕ, sym, ap, subst, ◌∙◌, List, [], map}
 use Rattle.bdd_store.specs.declared.Ref.{Ref}
 use Rattle.bdd_store.specs.Diagram.{Diagram, IsLive}
 use Rattle.smv_rings.specs.declared.Rel.{Rel}
@@ -23,9 +23,11 @@ use Rattle.smv_core.specs.Values.{numbers_from}
 use Rattle.law_reports.specs.CaseLists.{case_lists}
 use Rattle.law_arrangements.specs.Orders.{arranged, IsOrder}
 use Rattle.law_arrangements.specs.ArrangedLists.{lists_over}
-use Rattle.law_arrangements.proofs.OrderLaws.{declared_order}
+use Rattle.law_arrangements.proofs.OrderLaws.{declared_order, order_arranges}
 use Rattle.law_arrangements.proofs.Declared.{declared_is_today}
 use Rattle.smv_problem.specs.WellFormed.{OfCases}
+use Rattle.smv_core.specs.declared.flat.Element.{Element}
+use Rattle.smv_trace.specs.Wired.{AreWired}
 use Rattle.smv_decide.specs.Decisions.{IsFound}
 
 -- the lists are the same after the search
@@ -41,9 +43,18 @@ pub shown_by : (p : Problem) (c : PosedCase) (steps : ℕ) (states : List StateD
 unfolding written
 shown_by p c steps states e s = record { states = s.0; is_shortest = s.1; elements_are = ap (λ (q : Problem). q.elements) e; path_is = s.2 }
 
--- over the declared order the lists of a case are its own
-pub lists_declared : (p : Problem) (l : Lists) (order shown : List ℕ) → shown ≡ order → OfCases p (λ c. order ≡ numbers_from 0 (state_bits c)) → OfCases p (λ c. l ≡ case_lists c) → OfCases p (λ c. l ≡ lists_over c (arranged shown))
-lists_declared p l order shown e declared lists c is well = lists c is well ∙ sym (ap (λ (os : List ℕ). lists_over c (arranged os)) (e ∙ declared c is well) ∙ declared_is_today c well.is_case)
+pub order_declared : (p : Problem) (order : List ℕ) → OfCases p (λ c. order ≡ numbers_from 0 (state_bits c)) → OfCases p (λ c. IsOrder (state_bits c) order)
+order_declared p order declared c is well = subst (IsOrder (state_bits c)) (sym (declared c is well)) (declared_order (state_bits c))
 
-pub order_declared : (p : Problem) (order shown : List ℕ) → shown ≡ order → OfCases p (λ c. order ≡ numbers_from 0 (state_bits c)) → OfCases p (λ c. IsOrder (state_bits c) shown)
-order_declared p order shown e declared c is well = subst (IsOrder (state_bits c)) (sym (e ∙ declared c is well)) (declared_order (state_bits c))
+-- over the declared order the lists of a case are its own, and no element is worked out
+pub wired_declared : (p : Problem) (l : Lists) (order : List ℕ) (wires : List Element) → wires ≡ [] → OfCases p (λ c. order ≡ numbers_from 0 (state_bits c)) → OfCases p (λ c. l ≡ case_lists c) → OfCases p (AreWired order wires l)
+wired_declared p l order wires none declared lists c is well = (
+  [],
+  none,
+  order_arranges c order (order_declared p order declared c is well),
+  lists c is well ∙ sym (ap (λ (os : List ℕ). lists_over c (arranged os)) (declared c is well) ∙ declared_is_today c well.is_case),
+)
+
+-- they are so after the search
+pub wired_after : (old new : Diagram) (rel : Rel) (p : Problem) (order : List ℕ) (wires : List Element) → KeepsRefs old new (refs_of rel) → OfCases p (AreWired order wires (lists_of old rel)) → OfCases p (AreWired order wires (lists_of new rel))
+wired_after old new rel p order wires keeps lists c is well = let r = lists c is well in (r.0, r.1, r.2, lists_kept old new rel keeps ∙ r.3)

@@ -2,10 +2,14 @@
 use Rattle.std.specs.Prelude.{◌≡◌, ⊤, ℕ, List, map, Bool, true, false}
 use Rattle.law_events.specs.Events.{Event}
 use Rattle.law_events.specs.Events.Event.{Counted, Reached, Shut, Images}
+use Rattle.smv_core.specs.declared.flat.Element.{Element}
+use Rattle.law_obligations.specs.Sets.{Has}
+use Rattle.law_obligations.specs.Cones.{AbsElement}
 use Rattle.law_obligations.specs.May.{AbsState}
 use Rattle.law_obligations.specs.Readings.{PosedCase}
 use Rattle.law_obligations.specs.CasePaths.{IsShortest}
-use Rattle.smv_problem.specs.Written.{written_state}
+use Rattle.smv_problem.specs.Written.{written_element, written_state}
+use Rattle.smv_problem.specs.WellFormed.{AreApartElements}
 use Rattle.smv_decide.specs.declared.tries.Tried.{Tried}
 use Rattle.smv_decide.specs.declared.tries.Tried.TheVariants.{Safe, Broken, OutOfNodes, OutOfSteps, NoRoom}
 
@@ -24,3 +28,7 @@ is_out (Broken path) = false
 is_out (OutOfNodes count) = true
 is_out OutOfSteps = false
 is_out NoRoom = true
+
+-- elements of a case, each once
+abbrev pub AreCandidates : List Element → PosedCase → Type 0
+AreCandidates elements c = (xs : List AbsElement) × (elements ≡ map written_element xs) × ((x : AbsElement) → Has xs x → Has c.elements x) × AreApartElements xs

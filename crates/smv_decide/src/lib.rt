@@ -18,6 +18,7 @@ ghost use Rattle.smv_decide.specs.Tries.{IsTried};
 ghost use Rattle.smv_decide.specs.Tasks.{IsTask, case_in};
 
 pub mod leaves;
+mod near;
 pub mod room;
 pub mod tasks;
 pub mod tries;
@@ -88,7 +89,7 @@ pub fn tell(
         Outcome::Reaches { depth, rings } => {
             let order = declared_order(alloc, &problem)?;
             let order = order.as_slice();
-            let states = path(alloc, &problem, rel, store, order, &rings, depth)?;
+            let states = path(alloc, &problem, rel, store, order, &[], &rings, depth)?;
             Ok(shown(problem, states))
         }
         Outcome::OutOfNodes { count } => Ok(Decided {

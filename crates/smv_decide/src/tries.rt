@@ -1,20 +1,22 @@
 // A problem is tried over more than one order of its bits.
-ghost use Rattle.std.specs.Prelude.{◌≡◌, ◌≤◌, ℕ, true, false, IfOk};
+ghost use Rattle.std.specs.Prelude.{◌≡◌, ◌≤◌, ℕ, false, IfOk};
 ghost use Rattle.smv_rings.specs.Lists.{IsRel, lists_of};
 ghost use Rattle.law_obligations.specs.Readings.{state_bits as bits_of_case};
 ghost use Rattle.smv_core.specs.Values.{numbers_from};
 ghost use Rattle.law_events.specs.Events.{IsFirstEvent};
+ghost use Rattle.law_reports.specs.CaseLists.{case_lists};
 ghost use Rattle.law_reports.specs.Verdicts.{MayBeTold};
-ghost use Rattle.law_arrangements.specs.Orders.{arranged, IsOrder};
-ghost use Rattle.law_arrangements.specs.ArrangedLists.{lists_over};
+ghost use Rattle.law_arrangements.specs.Orders.{IsOrder};
 ghost use Rattle.smv_problem.specs.WellFormed.{IsProblem, OfCases};
+ghost use Rattle.smv_trace.specs.Wired.{AreWired};
 ghost use Rattle.smv_decide.specs.Decisions.{IsFound};
 ghost use Rattle.smv_decide.specs.Tries.{IsTried, is_out};
 
+use crate::near::try_near;
 use crate::room::relations_within;
 use bdd_store::Store;
-use smv_bit_order::near_order;
 use smv_core::Seq;
+use smv_core::flat::Element;
 use smv_orders::declared_order;
 use smv_problem::{AbsState, Budgets, Problem};
 use smv_readings::state_bits;
@@ -54,11 +56,12 @@ pub(crate) fn is_out_of_nodes(tried: &Tried) -> bool
     }
 }
 
-// What the outcome of a search over an order of the bits says of the problem, with a shortest path where it reaches a violation.
+// What the outcome of a search over an order of the bits, with these elements worked out, says of the problem, with a shortest path where it reaches a violation.
 fn found_over(
     alloc: Global,
     problem: &Problem,
     order: &[u16],
+    wires: &[Element],
     rel: &Rel,
     store: &mut Store,
     outcome: Outcome,
@@ -67,14 +70,14 @@ fn found_over(
     requires well_formed { IsProblem problem.now }
     requires order { OfCases problem.now (λ c. IsOrder (bits_of_case c) order.now) }
     requires rel { IsRel store.old rel.now }
-    requires lists { OfCases problem.now (λ c. lists_of store.old rel.now ≡ lists_over c (arranged order.now)) }
+    requires lists { OfCases problem.now (AreWired order.now wires.now (lists_of store.old rel.now)) }
     requires found { IsFound store.old (lists_of store.old rel.now) budgets.nodes budgets.steps outcome }
-    ensures { IfOk result (λ tried. OfCases problem.entry.now (λ c. IsTried (IsFirstEvent (lists_over c (arranged order.now)) budgets.nodes budgets.steps) c tried)) }
+    ensures { IfOk result (λ tried. OfCases problem.entry.now (λ c. IsTried (IsFirstEvent (lists_of store.old rel.now) budgets.nodes budgets.steps) c tried)) }
 {
     match outcome {
         Outcome::Closed { set: _ } => Ok(Tried::Safe),
         Outcome::Reaches { depth, rings } => {
-            let states = path(alloc, problem, rel, store, order, &rings, depth)?;
+            let states = path(alloc, problem, rel, store, order, wires, &rings, depth)?;
             Ok(Tried::Broken { path: states })
         }
         Outcome::OutOfNodes { count } => Ok(Tried::OutOfNodes { count }),
@@ -82,51 +85,46 @@ fn found_over(
     }
 }
 
-// A try over an order of the bits, with a store of its own.
-fn try_over(
+/// What a search over functions finds of their problem.
+pub(crate) fn search_over(
     alloc: Global,
     problem: &Problem,
     order: &[u16],
+    wires: &[Element],
+    rel: &Rel,
+    store: &mut Store,
     budgets: Budgets,
 ) -> Result<Tried, AllocError>
     requires well_formed { IsProblem problem.now }
-    requires order { OfCases problem.now (λ c. IsOrder (bits_of_case c) order.now) }
     requires steps { 1 ≤ budgets.steps }
-    ensures { IfOk result (λ tried. OfCases problem.entry.now (λ c. IsTried (IsFirstEvent (lists_over c (arranged order.now)) budgets.nodes budgets.steps) c tried)) }
+    requires order { OfCases problem.now (λ c. IsOrder (bits_of_case c) order.now) }
+    requires rel { IsRel store.old rel.now }
+    requires lists { OfCases problem.now (AreWired order.now wires.now (lists_of store.old rel.now)) }
+    ensures { IfOk result (λ tried. OfCases problem.entry.now (λ c. IsTried (IsFirstEvent (lists_of store.old rel.now) budgets.nodes budgets.steps) c tried)) }
 {
-    let bits = state_bits(problem);
-    let mut store = Store::new(alloc, 2 * u32::from(bits))?;
-    let Some(rel) = relations_within(alloc, problem, order, &mut store, budgets.nodes)? else {
-        return Ok(Tried::NoRoom);
-    };
-    let outcome = search(alloc, &rel, &mut store, budgets.nodes, budgets.steps)?;
-    let tried = found_over(alloc, problem, order, &rel, &mut store, outcome, budgets)?;
+    let outcome = search(alloc, rel, store, budgets.nodes, budgets.steps)?;
+    let tried = found_over(alloc, problem, order, wires, rel, store, outcome, budgets)?;
     Ok(tried)
 }
 
-// A try over the near order, where that is another one than the declared.
-fn try_near(
+// A try over the declared order, with a store of its own.
+fn try_declared(
     alloc: Global,
     problem: &Problem,
     declared: &[u16],
-    near: &[u16],
     budgets: Budgets,
-    before: Tried,
 ) -> Result<Tried, AllocError>
     requires well_formed { IsProblem problem.now }
-    requires near { OfCases problem.now (λ c. IsOrder (bits_of_case c) near.now) }
+    requires declared { OfCases problem.now (λ c. declared.now ≡ numbers_from 0 (bits_of_case c)) }
     requires steps { 1 ≤ budgets.steps }
-    requires before { OfCases problem.now (λ c. (nodes : ℕ) → is_out before ≡ false → IsTried (MayBeTold nodes budgets.steps c) c before) }
-    ensures tried { IfOk result (λ tried. OfCases problem.entry.now (λ c. (nodes : ℕ) → is_out tried ≡ false → IsTried (MayBeTold nodes budgets.steps c) c tried)) }
-    ensures counted { IfOk result (λ tried. is_out tried ≡ true → tried ≡ before) }
+    ensures { IfOk result (λ tried. OfCases problem.entry.now (λ c. IsTried (IsFirstEvent (case_lists c) budgets.nodes budgets.steps) c tried)) }
 {
-    if !is_out_of_nodes(&before) || near == declared {
-        return Ok(before);
-    }
-    let tried = try_over(alloc, problem, near, budgets)?;
-    if is_out_of_nodes(&tried) {
-        return Ok(before);
-    }
+    let bits = state_bits(problem);
+    let mut store = Store::new(alloc, 2 * u32::from(bits))?;
+    let Some(rel) = relations_within(alloc, problem, &mut store, budgets.nodes)? else {
+        return Ok(Tried::NoRoom);
+    };
+    let tried = search_over(alloc, problem, declared, &[], &rel, &mut store, budgets)?;
     Ok(tried)
 }
 
@@ -135,18 +133,16 @@ fn try_both(
     alloc: Global,
     problem: &Problem,
     declared: &[u16],
-    near: &[u16],
     budgets: Budgets,
 ) -> Result<Tried, AllocError>
     requires well_formed { IsProblem problem.now }
     requires declared { OfCases problem.now (λ c. declared.now ≡ numbers_from 0 (bits_of_case c)) }
-    requires near { OfCases problem.now (λ c. IsOrder (bits_of_case c) near.now) }
     requires steps { 1 ≤ budgets.steps }
     ensures tried { IfOk result (λ tried. OfCases problem.entry.now (λ c. (nodes : ℕ) → is_out tried ≡ false → IsTried (MayBeTold nodes budgets.steps c) c tried)) }
     ensures whole { IfOk result (λ tried. OfCases problem.entry.now (λ c. IsTried (MayBeTold budgets.nodes budgets.steps c) c tried)) }
 {
-    let first = try_over(alloc, problem, declared, budgets)?;
-    let tried = try_near(alloc, problem, declared, near, budgets, first)?;
+    let first = try_declared(alloc, problem, declared, budgets)?;
+    let tried = try_near(alloc, problem, declared, budgets, first)?;
     Ok(tried)
 }
 
@@ -158,24 +154,17 @@ pub(crate) fn tries(alloc: Global, problem: &Problem, budgets: Budgets) -> Resul
     ensures { IfOk result (λ tried. OfCases problem.entry.now (λ c. IsTried (MayBeTold budgets.nodes budgets.steps c) c tried)) }
 {
     let declared = declared_order(alloc, problem)?;
-    let near = near_order(alloc, problem)?;
     let part = budgets.nodes / PART;
     if part > 0 {
         let few = Budgets {
             nodes: part,
             steps: budgets.steps,
         };
-        let tried = try_both(alloc, problem, declared.as_slice(), near.as_slice(), few)?;
+        let tried = try_both(alloc, problem, declared.as_slice(), few)?;
         if !is_out_of_nodes(&tried) {
             return Ok(tried);
         }
     }
-    let tried = try_both(
-        alloc,
-        problem,
-        declared.as_slice(),
-        near.as_slice(),
-        budgets,
-    )?;
+    let tried = try_both(alloc, problem, declared.as_slice(), budgets)?;
     Ok(tried)
 }

@@ -12,7 +12,7 @@ use Rattle.law_obligations.specs.Obligations.{Demanded}
 use Rattle.law_obligations.specs.Cones.{AbsElement}
 use Rattle.law_obligations.specs.Readings.{PosedCase, Slot, bits_of, is_value, slots_from}
 use Rattle.bdd_codes.specs.Codes.{bits_at}
-use Rattle.law_arrangements.specs.Arrangements.{spread}
+use Rattle.law_arrangements.specs.Arrangements.{Arrangement, spread}
 use Rattle.law_reports.specs.CaseLists.{is_claim, is_by_next, defines, those_of}
 use Rattle.bdd_store.specs.declared.Ref.{Ref}
 use Rattle.bdd_store.specs.Diagram.{Diagram, IsLive, AreLive, Keeps, table, ref_at}
@@ -286,10 +286,10 @@ demands_shown c ds demands shown e h = subst (AreDemands c ds) (sym e) h
 
 -- ---- the function of an element
 
-pub element_is : (c : PosedCase) (order : List ℕ) (step : Bool) (slot : Slot) (f v m : Function) → ((a : ℕ → Bool) → f a ≡ (v a && m a)) → ((a : ℕ → Bool) → v a ≡ is_value c.problem.world (spread order (bits_at step a)) slot)
-    → ((a : ℕ → Bool) → m a ≡ list_all (λ d. met_at c order step d a) (those_of c.problem.now slot.element)) → f ≡ element_at c order step slot
-element_is c order false slot f v m is ev em = λ i a. (is a ∙ ap (λ (b : Bool). b && m a) (ev a) ∙ ap (λ (b : Bool). is_value c.problem.world (spread order (bits_at false a)) slot && b) (em a)) i
-element_is c order true slot f v m is ev em = λ i a. (is a ∙ ap (λ (b : Bool). b && m a) (ev a) ∙ ap (λ (b : Bool). is_value c.problem.world (spread order (bits_at true a)) slot && b) (em a)) i
+pub element_is : (c : PosedCase) (o : Arrangement) (step : Bool) (slot : Slot) (f v m : Function) → ((a : ℕ → Bool) → f a ≡ (v a && m a)) → ((a : ℕ → Bool) → v a ≡ is_value c.problem.world (spread o.order (bits_at step a)) slot)
+    → ((a : ℕ → Bool) → m a ≡ list_all (λ d. met_at c o step d a) (those_of c.problem.now slot.element)) → f ≡ element_at c o step slot
+element_is c o false slot f v m is ev em = λ i a. (is a ∙ ap (λ (b : Bool). b && m a) (ev a) ∙ ap (λ (b : Bool). is_value c.problem.world (spread o.order (bits_at false a)) slot && b) (em a)) i
+element_is c o true slot f v m is ev em = λ i a. (is a ∙ ap (λ (b : Bool). b && m a) (ev a) ∙ ap (λ (b : Bool). is_value c.problem.world (spread o.order (bits_at true a)) slot && b) (em a)) i
 
 -- ---- turns
 

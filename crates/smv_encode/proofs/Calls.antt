@@ -24,13 +24,14 @@ use Rattle.smv_cells.specs.declared.cells.Cell.{Cell}
 use Rattle.smv_cells.specs.Cells.{AreCellsMade}
 use Rattle.smv_cells.specs.Seen.{View, IsSeen}
 use Rattle.smv_cells.proofs.SeenLaws.{cells_kept, seen_on}
-use Rattle.smv_encode.specs.Coded.{state_at, view_at}
+use Rattle.law_arrangements.specs.Arrangements.{Arrangement}
+use Rattle.smv_encode.specs.Coded.{AreStates, state_at, view_at}
 use Rattle.smv_orders.specs.Places.{ArePlaces}
 use Rattle.smv_encode.proofs.CodedCells.{kept_conditions}
 use Rattle.smv_walks.specs.Demands.{view_of, AreRead, IsDemand, IsTargetOf, IsGuard, IsDemanded}
 use Rattle.smv_encode.specs.declared.cells.Cells.{Cells}
 use Rattle.smv_encode.specs.Encoded.{IsKept, AreLiveCells, AreCellsOf}
-use Rattle.smv_encode.proofs.ReadCases.{read_first, read_step, seen_state, is_demand, target_demand, is_guard}
+use Rattle.smv_encode.proofs.ReadCases.{arranged_states, read_first, read_step, seen_state, is_demand, target_demand, is_guard}
 
 -- ---- what calls keep
 
@@ -47,10 +48,11 @@ list_seen d e p cells v k live seen = seen_on IsLive table (λ (s : Diagram). s.
 pub live_on : (d e : Diagram) (cells : Cells) → Keeps d e → AreLiveCells d cells → AreLiveCells e cells
 live_on d e cells k live = record { current = list_kept d e cells.current.items k live.current; next = list_kept d e cells.next.items k live.next }
 
-pub cells_on : (c : PosedCase) (order : List ℕ) (d e : Diagram) (p : Problem) (cells : Cells) → Keeps d e → AreLiveCells d cells → AreCellsOf c order d p cells → AreCellsOf c order e p cells
-cells_on c order d e p cells k live are = record {
-  current = list_seen d e p cells.current.items (view_at c order false) k live.current are.current;
-  next = list_seen d e p cells.next.items (view_at c order true) k live.next are.next;
+pub cells_on : (c : PosedCase) (o : Arrangement) (d e : Diagram) (p : Problem) (cells : Cells) → Keeps d e → AreLiveCells d cells → AreCellsOf c o d p cells → AreCellsOf c o e p cells
+cells_on c o d e p cells k live are = record {
+  states = are.states;
+  current = list_seen d e p cells.current.items (view_at c o false) k live.current are.current;
+  next = list_seen d e p cells.next.items (view_at c o true) k live.next are.next;
 }
 
 -- ---- demands
@@ -60,21 +62,21 @@ same_function f g same i a = same a i
 
 module _ {E : Type 0} (d e : Diagram) (p : Problem) (demand : Demand) where
   pub first_means : (cells now : List (Cell Ref)) (old : Option (List (Cell Ref))) → now ≡ cells → old ≡ None → (r : Result Ref E) → IfOk r (λ r. IsDemanded IsDemand table d e p old now demand (λ p before now d. is_met p before now d) r)
-      → IfOk r (λ r. OfCases p (λ c. (order : List ℕ) → IsSeen table d p cells (view_at c order false) → (x : Demanded) → demand ≡ written_demand c.problem.world.classes x → IsFit c x → IsKept c x → table e r ≡ met_first c (arranged order) x))
+      → IfOk r (λ r. OfCases p (λ c. (o : Arrangement) → AreStates c o → IsSeen table d p cells (view_at c o false) → (x : Demanded) → demand ≡ written_demand c.problem.world.classes x → IsFit c x → IsKept c x → table e r ≡ met_first c o x))
   unfolding IsDemanded
-  first_means cells now old same none (Ok r) says = λ c is well order seen x e_x fit kept.
-      same_function (table e r) (met_first c (arranged order) x) (λ a.
-      says c.problem None (state_at c order false) (subst (λ (o : Option (List (Cell Ref))). AreRead table d p o now c.problem None (state_at c order false)) (sym none) (subst (λ (cs : List (Cell Ref)). AreRead table d p None cs c.problem None (state_at c order false)) (sym same) (read_first c well order d p cells seen)))
+  first_means cells now old same none (Ok r) says = λ c is well o states seen x e_x fit kept.
+      same_function (table e r) (met_first c o x) (λ a.
+      says c.problem None (state_at c o false) (subst (λ (before : Option (List (Cell Ref))). AreRead table d p before now c.problem None (state_at c o false)) (sym none) (subst (λ (cs : List (Cell Ref)). AreRead table d p None cs c.problem None (state_at c o false)) (sym same) (read_first c well o states d p cells seen)))
       x (is_demand c well x fit kept) e_x a)
   first_means cells now old same none (Err x) says = tt
 
   pub step_means : (current next before now : List (Cell Ref)) (old : Option (List (Cell Ref))) → before ≡ current → now ≡ next → old ≡ Some before → (r : Result Ref E) → IfOk r (λ r. IsDemanded IsDemand table d e p old now demand (λ p before now d. is_met p before now d) r)
-      → IfOk r (λ r. OfCases p (λ c. (order : List ℕ) → IsSeen table d p current (view_at c order false) → IsSeen table d p next (view_at c order true) → (x : Demanded) → demand ≡ written_demand c.problem.world.classes x → IsFit c x → IsKept c x → table e r ≡ met_step c (arranged order) x))
+      → IfOk r (λ r. OfCases p (λ c. (o : Arrangement) → AreStates c o → IsSeen table d p current (view_at c o false) → IsSeen table d p next (view_at c o true) → (x : Demanded) → demand ≡ written_demand c.problem.world.classes x → IsFit c x → IsKept c x → table e r ≡ met_step c o x))
   unfolding IsDemanded
-  step_means current next before now old e1 e2 e3 (Ok r) says = λ c is well order seen_old seen x e_x fit kept.
-      same_function (table e r) (met_step c (arranged order) x) (λ a.
-      says c.problem (Some (state_at c order false)) (state_at c order true) (subst (λ (o : Option (List (Cell Ref))). AreRead table d p o now c.problem (Some (state_at c order false)) (state_at c order true)) (sym (e3 ∙ ap (λ (cs : List (Cell Ref)). Some cs) e1))
-      (subst (λ (cs : List (Cell Ref)). AreRead table d p (Some current) cs c.problem (Some (state_at c order false)) (state_at c order true)) (sym e2) (read_step c well order d p current next seen_old seen)))
+  step_means current next before now old e1 e2 e3 (Ok r) says = λ c is well o states seen_old seen x e_x fit kept.
+      same_function (table e r) (met_step c o x) (λ a.
+      says c.problem (Some (state_at c o false)) (state_at c o true) (subst (λ (before : Option (List (Cell Ref))). AreRead table d p before now c.problem (Some (state_at c o false)) (state_at c o true)) (sym (e3 ∙ ap (λ (cs : List (Cell Ref)). Some cs) e1))
+      (subst (λ (cs : List (Cell Ref)). AreRead table d p (Some current) cs c.problem (Some (state_at c o false)) (state_at c o true)) (sym e2) (read_step c well o states d p current next seen_old seen)))
       x (is_demand c well x fit kept) e_x a)
   step_means current next before now old e1 e2 e3 (Err x) says = tt
 
@@ -86,19 +88,19 @@ target_is p c is = ap (λ (q : Problem). q.target) is
 
 module _ {E : Type 0} (d e : Diagram) (p : Problem) where
   pub target_first_means : (cells now : List (Cell Ref)) (old : Option (List (Cell Ref))) → now ≡ cells → old ≡ None → (r : Result Ref E) → IfOk r (λ r. IsDemanded IsTargetOf table d e p old now p.target (λ p before now d. is_broken p before now d) r)
-      → IfOk r (λ r. OfCases p (λ c. (order : List ℕ) → IsSeen table d p cells (view_at c order false) → (a : ℕ → Bool) → table e r a ≡ is_broken c.problem None (state_at c order false a) c.problem.target))
+      → IfOk r (λ r. OfCases p (λ c. (o : Arrangement) → AreStates c o → IsSeen table d p cells (view_at c o false) → (a : ℕ → Bool) → table e r a ≡ is_broken c.problem None (state_at c o false a) c.problem.target))
   unfolding IsDemanded
-  target_first_means cells now old same none (Ok r) says = λ c is well order seen a.
-      says c.problem None (state_at c order false) (subst (λ (o : Option (List (Cell Ref))). AreRead table d p o now c.problem None (state_at c order false)) (sym none) (subst (λ (cs : List (Cell Ref)). AreRead table d p None cs c.problem None (state_at c order false)) (sym same) (read_first c well order d p cells seen)))
+  target_first_means cells now old same none (Ok r) says = λ c is well o states seen a.
+      says c.problem None (state_at c o false) (subst (λ (before : Option (List (Cell Ref))). AreRead table d p before now c.problem None (state_at c o false)) (sym none) (subst (λ (cs : List (Cell Ref)). AreRead table d p None cs c.problem None (state_at c o false)) (sym same) (read_first c well o states d p cells seen)))
       c.problem.target (target_demand c well) (target_is p c is) a
   target_first_means cells now old same none (Err x) says = tt
 
   pub target_step_means : (current next before now : List (Cell Ref)) (old : Option (List (Cell Ref))) → before ≡ current → now ≡ next → old ≡ Some before → (r : Result Ref E) → IfOk r (λ r. IsDemanded IsTargetOf table d e p old now p.target (λ p before now d. is_broken p before now d) r)
-      → IfOk r (λ r. OfCases p (λ c. (order : List ℕ) → IsSeen table d p current (view_at c order false) → IsSeen table d p next (view_at c order true) → (a : ℕ → Bool) → table e r a ≡ is_broken c.problem (Some (state_at c order false a)) (state_at c order true a) c.problem.target))
+      → IfOk r (λ r. OfCases p (λ c. (o : Arrangement) → AreStates c o → IsSeen table d p current (view_at c o false) → IsSeen table d p next (view_at c o true) → (a : ℕ → Bool) → table e r a ≡ is_broken c.problem (Some (state_at c o false a)) (state_at c o true a) c.problem.target))
   unfolding IsDemanded
-  target_step_means current next before now old e1 e2 e3 (Ok r) says = λ c is well order seen_old seen a.
-      says c.problem (Some (state_at c order false)) (state_at c order true) (subst (λ (o : Option (List (Cell Ref))). AreRead table d p o now c.problem (Some (state_at c order false)) (state_at c order true)) (sym (e3 ∙ ap (λ (cs : List (Cell Ref)). Some cs) e1))
-      (subst (λ (cs : List (Cell Ref)). AreRead table d p (Some current) cs c.problem (Some (state_at c order false)) (state_at c order true)) (sym e2) (read_step c well order d p current next seen_old seen)))
+  target_step_means current next before now old e1 e2 e3 (Ok r) says = λ c is well o states seen_old seen a.
+      says c.problem (Some (state_at c o false)) (state_at c o true) (subst (λ (before : Option (List (Cell Ref))). AreRead table d p before now c.problem (Some (state_at c o false)) (state_at c o true)) (sym (e3 ∙ ap (λ (cs : List (Cell Ref)). Some cs) e1))
+      (subst (λ (cs : List (Cell Ref)). AreRead table d p (Some current) cs c.problem (Some (state_at c o false)) (state_at c o true)) (sym e2) (read_step c well o states d p current next seen_old seen)))
       c.problem.target (target_demand c well) (target_is p c is) a
   target_step_means current next before now old e1 e2 e3 (Err x) says = tt
 
@@ -106,8 +108,8 @@ module _ {E : Type 0} (d e : Diagram) (p : Problem) where
 
 pub guard_means : {E : Type 0} (d e : Diagram) (p : Problem) (cells : List (Cell Ref)) (g : Guard) (r : Result Ref E)
     → IfOk r (λ r. (q : Obligations) (now : (ℕ → Bool) → AbsState) → IsSeen table d p cells (view_of q now) → IsGuard q p.bindings g → (a : ℕ → Bool) → table e r a ≡ may_hold q (now a) g)
-    → IfOk r (λ r. OfCases p (λ c. (order : List ℕ) (next : Bool) → IsSeen table d p cells (view_at c order next) → Has c.problem.guards g → (a : ℕ → Bool) → table e r a ≡ may_hold c.problem (state_at c order next a) g))
-guard_means d e p cells g (Ok r) says = λ c is well order next seen h a. says c.problem (state_at c order next) (seen_state c well order d p next cells seen) (is_guard c well p is g h) a
+    → IfOk r (λ r. OfCases p (λ c. (o : Arrangement) (next : Bool) → AreStates c o → IsSeen table d p cells (view_at c o next) → Has c.problem.guards g → (a : ℕ → Bool) → table e r a ≡ may_hold c.problem (state_at c o next a) g))
+guard_means d e p cells g (Ok r) says = λ c is well o next states seen h a. says c.problem (state_at c o next) (seen_state c well o states d p next cells seen) (is_guard c well p is g h) a
 guard_means d e p cells g (Err x) says = tt
 
 pub no_guards : (c : PosedCase) (s : AbsState) (gs : List Guard) (z : Bool) → gs ≡ [] → z ≡ true → z ≡ list_all (may_hold c.problem s) gs
@@ -143,25 +145,26 @@ behind_within d places own behind e within p h = within p (subst (λ (ps : List 
 pub vars_on : (p : Problem) (d e : Diagram) → Keeps d e → OfCases p (λ c. d.vars ≡ 2 * state_bits c) → OfCases p (λ c. e.vars ≡ 2 * state_bits c)
 vars_on p d e k vars c is well = k.vars ∙ vars c is well
 
-pub both_seen : (p : Problem) (d e : Diagram) (current next : List (Cell Ref)) → Keeps d e → AreCellsMade (IsLive d) current → (places : List ℕ) → OfCases p (λ c. (order : List ℕ) → ArePlaces order 0 places → IsSeen table d p current (view_at c order false)) → OfCases p (λ c. (order : List ℕ) → ArePlaces order 0 places → IsSeen table e p next (view_at c order true))
-    → (cells : Cells) → cells.current.items ≡ current → cells.next.items ≡ next → OfCases p (λ c. (order : List ℕ) → ArePlaces order 0 places → AreCellsOf c order e p cells)
+pub both_seen : (p : Problem) (d e : Diagram) (current next : List (Cell Ref)) → Keeps d e → AreCellsMade (IsLive d) current → (places : List ℕ) → OfCases p (λ c. (order : List ℕ) → ArePlaces order 0 places → IsSeen table d p current (view_at c (arranged order) false)) → OfCases p (λ c. (order : List ℕ) → ArePlaces order 0 places → IsSeen table e p next (view_at c (arranged order) true))
+    → (cells : Cells) → cells.current.items ≡ current → cells.next.items ≡ next → OfCases p (λ c. (order : List ℕ) → ArePlaces order 0 places → AreCellsOf c (arranged order) e p cells)
 both_seen p d e current next k live places seen_current seen_next cells ec en c is well order placed = record {
-  current = subst (λ (cs : List (Cell Ref)). IsSeen table e p cs (view_at c order false)) (sym ec) (list_seen d e p current (view_at c order false) k live (seen_current c is well order placed));
-  next = subst (λ (cs : List (Cell Ref)). IsSeen table e p cs (view_at c order true)) (sym en) (seen_next c is well order placed);
+  states = arranged_states c well order;
+  current = subst (λ (cs : List (Cell Ref)). IsSeen table e p cs (view_at c (arranged order) false)) (sym ec) (list_seen d e p current (view_at c (arranged order) false) k live (seen_current c is well order placed));
+  next = subst (λ (cs : List (Cell Ref)). IsSeen table e p cs (view_at c (arranged order) true)) (sym en) (seen_next c is well order placed);
 }
 
 -- ---- by both cells at once
 
 pub step_says : {E : Type 0} (d e : Diagram) (p : Problem) (demand : Demand) (cells : Cells) (r : Result Ref E)
-    → IfOk r (λ r. OfCases p (λ c. (order : List ℕ) → IsSeen table d p cells.current.items (view_at c order false) → IsSeen table d p cells.next.items (view_at c order true) → (x : Demanded) → demand ≡ written_demand c.problem.world.classes x → IsFit c x → IsKept c x → table e r ≡ met_step c (arranged order) x))
-    → IfOk r (λ r. OfCases p (λ c. (order : List ℕ) → AreCellsOf c order d p cells → (x : Demanded) → demand ≡ written_demand c.problem.world.classes x → IsFit c x → IsKept c x → table e r ≡ met_step c (arranged order) x))
-step_says d e p demand cells (Ok r) says = λ c is well order are x e_x fit kept. says c is well order are.current are.next x e_x fit kept
+    → IfOk r (λ r. OfCases p (λ c. (o : Arrangement) → AreStates c o → IsSeen table d p cells.current.items (view_at c o false) → IsSeen table d p cells.next.items (view_at c o true) → (x : Demanded) → demand ≡ written_demand c.problem.world.classes x → IsFit c x → IsKept c x → table e r ≡ met_step c o x))
+    → IfOk r (λ r. OfCases p (λ c. (o : Arrangement) → AreCellsOf c o d p cells → (x : Demanded) → demand ≡ written_demand c.problem.world.classes x → IsFit c x → IsKept c x → table e r ≡ met_step c o x))
+step_says d e p demand cells (Ok r) says = λ c is well o are x e_x fit kept. says c is well o are.states are.current are.next x e_x fit kept
 step_says d e p demand cells (Err x) says = tt
 
 pub target_says : {E : Type 0} (d e : Diagram) (p : Problem) (cells : Cells) (r : Result Ref E)
-    → IfOk r (λ r. OfCases p (λ c. (order : List ℕ) → IsSeen table d p cells.current.items (view_at c order false) → IsSeen table d p cells.next.items (view_at c order true) → (a : ℕ → Bool) → table e r a ≡ is_broken c.problem (Some (state_at c order false a)) (state_at c order true a) c.problem.target))
-    → IfOk r (λ r. OfCases p (λ c. (order : List ℕ) → AreCellsOf c order d p cells → (a : ℕ → Bool) → table e r a ≡ is_broken c.problem (Some (state_at c order false a)) (state_at c order true a) c.problem.target))
-target_says d e p cells (Ok r) says = λ c is well order are a. says c is well order are.current are.next a
+    → IfOk r (λ r. OfCases p (λ c. (o : Arrangement) → AreStates c o → IsSeen table d p cells.current.items (view_at c o false) → IsSeen table d p cells.next.items (view_at c o true) → (a : ℕ → Bool) → table e r a ≡ is_broken c.problem (Some (state_at c o false a)) (state_at c o true a) c.problem.target))
+    → IfOk r (λ r. OfCases p (λ c. (o : Arrangement) → AreCellsOf c o d p cells → (a : ℕ → Bool) → table e r a ≡ is_broken c.problem (Some (state_at c o false a)) (state_at c o true a) c.problem.target))
+target_says d e p cells (Ok r) says = λ c is well o are a. says c is well o are.states are.current are.next a
 target_says d e p cells (Err x) says = tt
 
 pub first_guard : (c : PosedCase) (gs others : List Guard) (g : Guard) → gs ≡ g ∷ others → ((h : Guard) → Has gs h → Has c.problem.guards h) → Has c.problem.guards g

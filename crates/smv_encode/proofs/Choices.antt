@@ -55,7 +55,7 @@ module _ (c : PosedCase) (well : IsWellFormed c) where
       same_is x y e = λ i. record { family = same_element-family x y e i; indexes = same_element-indexes x y e i }
 
   -- the same element is written the same
-  same_written : (x y : AbsElement) → Has c.elements x → Has c.elements y → listed.same_element (written_element x) (written_element y) ≡ same_element x y
+  pub same_written : (x y : AbsElement) → Has c.elements x → Has c.elements y → listed.same_element (written_element x) (written_element y) ≡ same_element x y
   same_written x y hx hy = elim (cases_Bool (listed.same_element (written_element x) (written_element y))) [
     | inl e ↦
         let is : x ≡ y = written_once x y hx hy (same-is (written_element x) (written_element y) e) in
@@ -112,20 +112,20 @@ pub held_written : (n : Numbered) (d : Demanded) → is_held (written_demand n d
 held_written n (defined def indexes) = refl
 held_written n (holds body b) = refl
 
--- ---- demands that move nothing
+-- ---- members of which a test says no
 
-pub none_moves : (f : Demand → Bool) (ds : List Demand) (i : ℕ) (d : Demand) (w : Bool) → i < length ds → d ≡ get_or ds i d → f d ≡ false → list_any f (drop i ds) ≡ w → list_any f (drop (i + 1) ds) ≡ w
+pub none_moves : {X : Type 0} (f : X → Bool) (ds : List X) (i : ℕ) (d : X) (w : Bool) → i < length ds → d ≡ get_or ds i d → f d ≡ false → list_any f (drop i ds) ≡ w → list_any f (drop (i + 1) ds) ≡ w
 none_moves f ds i d w lt at is before =
     let one : i + 1 ≡ suc i = omega arith in
     ap (λ (k : ℕ). list_any f (drop k ds)) one
-    ∙ sym (ap (list_any f) (drop-cons ds i d lt ∙ ap (λ (g : Demand). g ∷ drop (suc i) ds) (sym at)) ∙ ap (λ (b : Bool). b || list_any f (drop (suc i) ds)) is)
+    ∙ sym (ap (list_any f) (drop-cons ds i d lt ∙ ap (λ g. g ∷ drop (suc i) ds) (sym at)) ∙ ap (λ (b : Bool). b || list_any f (drop (suc i) ds)) is)
     ∙ before
 
-none_left : (ds : List Demand) (i : ℕ) → length ds ≤ i → drop i ds ≡ []
+none_left : {X : Type 0} (ds : List X) (i : ℕ) → length ds ≤ i → drop i ds ≡ []
 none_left [] zero le = refl
 none_left [] (suc i) le = refl
 none_left (d ∷ ds) zero le = absurd (omega arith)
 none_left (d ∷ ds) (suc i) le = none_left ds i (omega arith)
 
-pub none_moves_all : (f : Demand → Bool) (ds : List Demand) (i : ℕ) (w : Bool) → length ds ≤ i → list_any f (drop i ds) ≡ w → false ≡ w
+pub none_moves_all : {X : Type 0} (f : X → Bool) (ds : List X) (i : ℕ) (w : Bool) → length ds ≤ i → list_any f (drop i ds) ≡ w → false ≡ w
 none_moves_all f ds i w le before = sym (ap (list_any f) (none_left ds i le)) ∙ before

@@ -1,5 +1,5 @@
 -- Cells whose values are those of codes are the cells of the case in the state that the bits are read as.
-use Rattle.std.proofs.Common.{◌≡◌, ℕ, suc, ◌+◌, ◌^◌, ◌<◌, ◌≤◌, append_assoc, List, [], ◌∷◌, ◌++◌, map, length, Bool, true, ◌&&◌, ◌||◌, nat_eq, nat_lt, refl, sym, ap, subst, ◌∙◌, Option, Some, None, inl, inr, arith}
+use Rattle.std.proofs.Common.{◌≡◌, ℕ, suc, ◌+◌, ◌^◌, ◌<◌, ◌≤◌, append_assoc, List, [], ◌∷◌, ◌++◌, map, length, Bool, true, false, ◌&&◌, ◌||◌, nat_eq, nat_lt, refl, sym, ap, subst, ◌∙◌, Option, Some, None, inl, inr, arith}
 use Rattle.std.specs.List.{list_any, slice_get}
 use Rattle.std.proofs.lemmas.Bool.{cases_Bool}
 use Rattle.law_lists.proofs.Lists.{length_map}
@@ -35,7 +35,8 @@ use Rattle.smv_problem_spots.specs.Worlds.{IsWorldOf}
 use Rattle.bdd_store.specs.declared.Ref.{Ref}
 use Rattle.bdd_store.specs.Diagram.{Diagram, IsLive, AreLive, Keeps, table}
 use Rattle.bdd_codes.specs.Codes.{bits_at, code_at, AreValues}
-use Rattle.law_arrangements.specs.Arrangements.{spread}
+use Rattle.law_arrangements.specs.Arrangements.{Arrangement, spread}
+use Rattle.law_arrangements.specs.Orders.{arranged}
 use Rattle.smv_conditions.specs.declared.offers.Offer.{Offer}
 use Rattle.smv_conditions.specs.Keep.{KeepsConditions}
 use Rattle.smv_conditions.specs.Offers.{AreOffersMade}
@@ -48,6 +49,8 @@ use Rattle.smv_orders.specs.Places.{ArePlaces}
 use Rattle.smv_orders.proofs.Orders.{places_apart}
 use Rattle.smv_encode.proofs.Placed.{code_placed}
 use Rattle.smv_encode.specs.Coded.{state_at, view_at, paired, HaveValues, AreAmong, IsCoded, AreCoded}
+use Rattle.smv_encode.specs.Encoded.{AreCodedCells}
+use Rattle.smv_encode.specs.declared.cells.Cells.{Cells}
 use Rattle.smv_encode.proofs.Paired.{coded_value, paired_made}
 
 -- what a store keeps, conditions keep
@@ -109,7 +112,7 @@ coded_kept c order d e next bit x cell k made h = record {
 
 -- ---- each of them is the cell of a slot
 
-has_slot : (c : PosedCase) (order : List ℕ) (d : Diagram) (next : Bool) (b : ℕ) (xs : List AbsElement) (cells : List (Cell Ref)) → AreCoded c order d next b xs cells → (cell : Cell Ref) → Has cells cell →
+pub has_slot : (c : PosedCase) (order : List ℕ) (d : Diagram) (next : Bool) (b : ℕ) (xs : List AbsElement) (cells : List (Cell Ref)) → AreCoded c order d next b xs cells → (cell : Cell Ref) → Has cells cell →
     (slot : Slot) × Has (slots_from c.problem.world b xs) slot × IsCoded c order d next slot.bit slot.element cell
 has_slot c order d next b [] [] are cell h = elim h [ ]
 has_slot c order d next b [] (y ∷ cells) are cell h = absurd are
@@ -131,7 +134,7 @@ same_turned x y = elim (cases_Bool (same_element x y)) [
   ]
 ]
 
-cells_of_elements : (c : PosedCase) (order : List ℕ) (d : Diagram) (next : Bool) (b : ℕ) (xs : List AbsElement) (cells : List (Cell Ref)) → AreCoded c order d next b xs cells → (family : ℕ) (ps : List Place) →
+pub cells_of_elements : (c : PosedCase) (order : List ℕ) (d : Diagram) (next : Bool) (b : ℕ) (xs : List AbsElement) (cells : List (Cell Ref)) → AreCoded c order d next b xs cells → (family : ℕ) (ps : List Place) →
     list_any (same_element (element family ps)) xs ≡ list_any (is_cell_of c.problem.world.classes family ps) cells
 cells_of_elements c order d next b [] [] are family ps = refl
 cells_of_elements c order d next b [] (y ∷ cells) are family ps = absurd are
@@ -146,12 +149,12 @@ cells_of_elements c order d next b (x ∷ xs) (y ∷ cells) are family ps =
 
 -- ---- so they are seen
 
-pub case_view : (c : PosedCase) (order : List ℕ) (next : Bool) → IsWellFormed c → IsView (view_at c order next)
-case_view c order next well = record { filled = λ a e b. case_filled c well (state_at c order next a) e b }
+pub case_view : (c : PosedCase) (o : Arrangement) (next : Bool) → IsWellFormed c → IsView (view_at c o next)
+case_view c o next well = record { filled = λ a e b. case_filled c well (state_at c o next a) e b }
 
-pub coded_seen : (c : PosedCase) (order : List ℕ) (d : Diagram) (next : Bool) (p : Problem) (cells : List (Cell Ref)) → IsWellFormed c → IsWorldOf p c.problem.world → AreCoded c order d next 0 c.elements cells → IsSeen table d p cells (view_at c order next)
+pub coded_seen : (c : PosedCase) (order : List ℕ) (d : Diagram) (next : Bool) (p : Problem) (cells : List (Cell Ref)) → IsWellFormed c → IsWorldOf p c.problem.world → AreCoded c order d next 0 c.elements cells → IsSeen table d p cells (view_at c (arranged order) next)
 coded_seen c order d next p cells well world are = record {
-  view = case_view c order next well;
+  view = case_view c (arranged order) next well;
   world = world;
   values = λ a q cell h.
       let r = has_slot c order d next 0 c.elements cells are cell h in
@@ -292,10 +295,27 @@ all_room p elements n e room = subst (λ (xs : List Element). bits_of_elements p
 pub bits_room : (p : Problem) (n : ℕ) → IsProblem p → OfCases p (λ c. n ≡ state_bits c) → bits_in p ≤ n
 bits_room p n (c, is, well) all = let bits = bits-of-cases p c is in let count = all c is well in omega (arith, bits, count)
 
-pub all_seen : (p : Problem) (d : Diagram) (next : Bool) (places : List ℕ) (elements : List Element) (old new : List (Cell Ref)) → elements ≡ p.elements → old ≡ []
-    → ((more : List (Cell Ref)) × (new ≡ old ++ more) × OfCases p (λ c. (xs : List AbsElement) → AreAmong c.elements xs → elements ≡ map written_element xs → (order : List ℕ) (bit : ℕ) → ArePlaces order bit places → AreCoded c order d next bit xs more))
-    → OfCases p (λ c. (order : List ℕ) → ArePlaces order 0 places → IsSeen table d p new (view_at c order next))
-unfolding written
-all_seen p d next places elements old new e none coded c is well order placed =
-    subst (λ (cells : List (Cell Ref)). IsSeen table d p cells (view_at c order next)) (sym (coded.1 ∙ ap (λ (cs : List (Cell Ref)). cs ++ coded.0) none))
-    (coded_seen c order d next p coded.0 well (problem_world p c is well) (coded.2 c is well c.elements (λ x h. h) (e ∙ ap (λ (q : Problem). q.elements) is) order 0 placed))
+module _ (p : Problem) (d : Diagram) (next : Bool) (places : List ℕ) (elements : List Element) (old new : List (Cell Ref)) (e : elements ≡ p.elements) (none : old ≡ [])
+    (coded : (more : List (Cell Ref)) × (new ≡ old ++ more) × OfCases p (λ c. (xs : List AbsElement) → AreAmong c.elements xs → elements ≡ map written_element xs → (order : List ℕ) (bit : ℕ) → ArePlaces order bit places → AreCoded c order d next bit xs more)) where
+  pub all_coded : OfCases p (λ c. (order : List ℕ) → ArePlaces order 0 places → AreCoded c order d next 0 c.elements new)
+  unfolding written
+  all_coded c is well order placed =
+      subst (λ (cells : List (Cell Ref)). AreCoded c order d next 0 c.elements cells) (sym (coded.1 ∙ ap (λ (cs : List (Cell Ref)). cs ++ coded.0) none))
+      (coded.2 c is well c.elements (λ x h. h) (e ∙ ap (λ (q : Problem). q.elements) is) order 0 placed)
+
+  pub all_seen : OfCases p (λ c. (order : List ℕ) → ArePlaces order 0 places → IsSeen table d p new (view_at c (arranged order) next))
+  all_seen c is well order placed = coded_seen c order d next p new well (problem_world p c is well) (all_coded c is well order placed)
+
+-- they stay so where the store grows
+pub coded_on : (c : PosedCase) (order : List ℕ) (d e : Diagram) (next : Bool) (bit : ℕ) (xs : List AbsElement) (cells : List (Cell Ref)) → Keeps d e → AreCellsMade (IsLive d) cells → AreCoded c order d next bit xs cells → AreCoded c order e next bit xs cells
+coded_on c order d e next bit [] [] k made are = tt
+coded_on c order d e next bit [] (y ∷ cells) k made are = absurd are
+coded_on c order d e next bit (x ∷ xs) [] k made are = absurd are
+coded_on c order d e next bit (x ∷ xs) (y ∷ cells) k made are = (coded_kept c order d e next bit x y k made.0 are.0, coded_on c order d e next (bit + bits_of c.problem.world x) xs cells k made.1 are.1)
+
+pub both_coded : (p : Problem) (d e : Diagram) (current next : List (Cell Ref)) → Keeps d e → AreCellsMade (IsLive d) current → (places : List ℕ) → OfCases p (λ c. (order : List ℕ) → ArePlaces order 0 places → AreCoded c order d false 0 c.elements current)
+    → OfCases p (λ c. (order : List ℕ) → ArePlaces order 0 places → AreCoded c order e true 0 c.elements next) → (cells : Cells) → cells.current.items ≡ current → cells.next.items ≡ next → OfCases p (λ c. (order : List ℕ) → ArePlaces order 0 places → AreCodedCells c order e cells)
+both_coded p d e current next k live places coded_current coded_next cells ec en c is well order placed = record {
+  current = subst (λ (cs : List (Cell Ref)). AreCoded c order e false 0 c.elements cs) (sym ec) (coded_on c order d e false 0 c.elements current k live (coded_current c is well order placed));
+  next = subst (λ (cs : List (Cell Ref)). AreCoded c order e true 0 c.elements cs) (sym en) (coded_next c is well order placed);
+}

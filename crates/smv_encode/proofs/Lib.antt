@@ -9,3 +9,4 @@ pub mod Whole
 pub mod Kept
 pub mod KnownCases
 pub mod Ordered
+pub mod Wires

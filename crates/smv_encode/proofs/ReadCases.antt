@@ -1,4 +1,4 @@
--- The states of a case that its bits are read as, for demands: each kept element has a value of its type, and demands of the case are of elements that are kept.
+-- The states of a case over an arrangement, for demands: each kept element has a value of its type, and demands of the case are of elements that are kept.
 use Rattle.std.proofs.Common.{◌≡◌, ℕ, List, Bool, true, false, refl, sym, ap, ◌∙◌, Option, Some, None}
 use Rattle.std.specs.List.{list_any, slice_get}
 use Rattle.smv_core.specs.declared.flat.Simple.{Simple}
@@ -16,8 +16,8 @@ use Rattle.law_obligations.proofs.OneOfEach.{get_Has}
 use Rattle.law_obligations.specs.Cones.{AbsElement, element, same_element, kept}
 use Rattle.law_obligations.proofs.Lookups.{find-some}
 use Rattle.law_obligations.proofs.ConeFacts.{same_element-itself, same_element-family}
-use Rattle.law_obligations.specs.Bits.{Bits}
-use Rattle.law_obligations.specs.Readings.{PosedCase, Slot, slots, reading}
+use Rattle.law_obligations.specs.May.{AbsState}
+use Rattle.law_obligations.specs.Readings.{PosedCase, Slot, slots}
 use Rattle.law_obligations.proofs.ReadBack.{found, slot_element, reading_is_state}
 use Rattle.smv_problem.specs.declared.problem.Problem.{Problem}
 use Rattle.smv_problem.specs.Written.{written}
@@ -26,7 +26,10 @@ use Rattle.bdd_store.specs.declared.Ref.{Ref}
 use Rattle.bdd_store.specs.Diagram.{Diagram, table}
 use Rattle.smv_cells.specs.declared.cells.Cell.{Cell}
 use Rattle.smv_cells.specs.Seen.{IsSeen}
-use Rattle.smv_encode.specs.Coded.{state_at, view_at}
+use Rattle.bdd_codes.specs.Codes.{bits_at}
+use Rattle.law_arrangements.specs.Arrangements.{Arrangement, spread, IsState}
+use Rattle.law_arrangements.specs.Orders.{arranged}
+use Rattle.smv_encode.specs.Coded.{AreStates, state_at, view_at}
 use Rattle.smv_walks.specs.Demands.{view_of, HaveValues, AreRead, IsDemand, IsTargetOf, IsGuard}
 use Rattle.smv_encode.specs.Encoded.{IsKept}
 
@@ -47,27 +50,31 @@ module _ (c : PosedCase) (well : IsWellFormed c) where
   among : (places : List Place) (p : Place) → Has places p → is_among places p ≡ true
   among places p h = any-found (same_place p) h (same_place-itself p)
 
-  value_among : (s : Bits) (family : ℕ) (ps : List Place) → c.problem.kept family ps ≡ true → is_among (places_of_family c.problem.world c.problem.kept (slice_get c.problem.world.classes.families family)) (reading c s family ps) ≡ true
-  value_among s family ps k =
+  value_among : (a : AbsState) → IsState c a → (family : ℕ) (ps : List Place) → c.problem.kept family ps ≡ true → is_among (places_of_family c.problem.world c.problem.kept (slice_get c.problem.world.classes.families family)) (a family ps) ≡ true
+  value_among a state family ps k =
       let f = some_family family ps k in
-      ap (λ (o : Option Family). is_among (places_of_family c.problem.world c.problem.kept o) (reading c s family ps)) f.1
-      ∙ among (places_in c.problem.world f.0.value) (reading c s family ps) ((reading_is_state c well.is_case s).is_somewhere family f.0 f.1 ps k)
+      ap (λ (o : Option Family). is_among (places_of_family c.problem.world c.problem.kept o) (a family ps)) f.1
+      ∙ among (places_in c.problem.world f.0.value) (a family ps) (state.is_somewhere family f.0 f.1 ps k)
 
-  have_values : (order : List ℕ) (next : Bool) → HaveValues c.problem (state_at c order next)
-  have_values order next a family ps k = value_among _ family ps k
+  have_values : (o : Arrangement) → AreStates c o → (next : Bool) → HaveValues c.problem (state_at c o next)
+  have_values o states next a family ps k = value_among (state_at c o next a) (states (bits_at next a)) family ps k
+
+  -- without elements that are worked out
+  pub arranged_states : (order : List ℕ) → AreStates c (arranged order)
+  arranged_states order s = reading_is_state c well.is_case (spread order s)
 
   -- ---- reading by cells
 
-  module _ (order : List ℕ) (d : Diagram) (p : Problem) where
-    pub read_first : (cells : List (Cell Ref)) → IsSeen table d p cells (view_at c order false) → AreRead table d p None cells c.problem None (state_at c order false)
+  module _ (o : Arrangement) (states : AreStates c o) (d : Diagram) (p : Problem) where
+    pub read_first : (cells : List (Cell Ref)) → IsSeen table d p cells (view_at c o false) → AreRead table d p None cells c.problem None (state_at c o false)
     unfolding view_of
-    read_first cells seen = record { now = seen; values = have_values order false; before = tt }
+    read_first cells seen = record { now = seen; values = have_values o states false; before = tt }
 
-    pub read_step : (old cells : List (Cell Ref)) → IsSeen table d p old (view_at c order false) → IsSeen table d p cells (view_at c order true) → AreRead table d p (Some old) cells c.problem (Some (state_at c order false)) (state_at c order true)
+    pub read_step : (old cells : List (Cell Ref)) → IsSeen table d p old (view_at c o false) → IsSeen table d p cells (view_at c o true) → AreRead table d p (Some old) cells c.problem (Some (state_at c o false)) (state_at c o true)
     unfolding view_of
-    read_step old cells before now = record { now = now; values = have_values order true; before = (before, have_values order false) }
+    read_step old cells before now = record { now = now; values = have_values o states true; before = (before, have_values o states false) }
 
-    pub seen_state : (next : Bool) (cells : List (Cell Ref)) → IsSeen table d p cells (view_at c order next) → IsSeen table d p cells (view_of c.problem (state_at c order next))
+    pub seen_state : (next : Bool) (cells : List (Cell Ref)) → IsSeen table d p cells (view_at c o next) → IsSeen table d p cells (view_of c.problem (state_at c o next))
     unfolding view_of
     seen_state next cells seen = seen
 

@@ -10,10 +10,11 @@ use Rattle.law_obligations.specs.Cones.{AbsElement, element, same_element}
 use Rattle.law_obligations.proofs.ConeFacts.{same_element-itself}
 use Rattle.law_obligations.specs.Readings.{PosedCase, Slot, slots, state_bits}
 use Rattle.law_reports.specs.CaseLists.{those_of, moves, moving_first, claims, before_in_step}
-use Rattle.law_arrangements.specs.Orders.{arranged}
-use Rattle.law_arrangements.specs.ArrangedLists.{element_first, element_step, met_first, met_step, lists_over}
+use Rattle.law_arrangements.specs.Arrangements.{Arrangement}
+use Rattle.law_arrangements.specs.Orders.{wired}
+use Rattle.law_arrangements.specs.ArrangedLists.{element_first, element_step, met_first, met_step, slots_over, lists_over}
 use Rattle.law_arrangements.proofs.Below.{are_lists}
-use Rattle.law_arrangements.proofs.OrderedLists.{lists_ordered}
+use Rattle.law_arrangements.proofs.OrderedLists.{lists_wired}
 use Rattle.bdd_store.specs.declared.Ref.{Ref}
 use Rattle.bdd_store.specs.Diagram.{Diagram, IsLive, AreLive, Keeps, table}
 use Rattle.bdd_store.proofs.Keeping.{functions_kept}
@@ -24,7 +25,7 @@ use Rattle.smv_rings.specs.Ops.{IsOneOf}
 use Rattle.smv_rings.proofs.Refs.{one_append, each_live, live_each}
 use Rattle.smv_problem.specs.declared.problem.Problem.{Problem}
 use Rattle.smv_problem.specs.Written.{written}
-use Rattle.smv_problem.specs.WellFormed.{IsWellFormed, IsProblem, OfCases}
+use Rattle.smv_problem.specs.WellFormed.{IsWellFormed, OfCases}
 use Rattle.smv_encode.specs.Encoded.{IsKept, broken_at}
 use Rattle.smv_encode.specs.Parts.{AreDemands, AreElements, AddsFunctions, is_turn}
 use Rattle.smv_encode.specs.declared.elements.Turn.TheVariants as turn
@@ -101,13 +102,13 @@ before_turns c m =
 
 -- ---- all lists
 
-pub lists_are : (c : PosedCase) (order : List ℕ) (d : Diagram) (rel : Rel) → map (table d) rel.now_first.items ≡ map (element_first c (arranged order)) (slots c) ++ map (met_first c (arranged order)) (claims c c.problem.now) → map (table d) rel.before_first.items ≡ map (met_first c (arranged order)) c.problem.before
-    → table d rel.broken_first ≡ broken_at c order false → map (table d) rel.now_step.items ≡ map (element_step c (arranged order)) (moving_first c.problem.now (slots c)) ++ map (met_step c (arranged order)) (claims c c.problem.now)
-    → map (table d) rel.before_step.items ≡ map (met_step c (arranged order)) (before_in_step c) → table d rel.broken_step ≡ broken_at c order true → rel.bits ≡ length order → lists_of d rel ≡ lists_over c (arranged order)
+pub lists_are : (c : PosedCase) (order : List ℕ) (done : List AbsElement) (d : Diagram) (rel : Rel) → map (table d) rel.now_first.items ≡ map (element_first c (wired order done)) (slots_over c (wired order done)) ++ map (met_first c (wired order done)) (claims c c.problem.now) → map (table d) rel.before_first.items ≡ map (met_first c (wired order done)) c.problem.before
+    → table d rel.broken_first ≡ broken_at c (wired order done) false → map (table d) rel.now_step.items ≡ map (element_step c (wired order done)) (moving_first c.problem.now (slots_over c (wired order done))) ++ map (met_step c (wired order done)) (claims c c.problem.now)
+    → map (table d) rel.before_step.items ≡ map (met_step c (wired order done)) (before_in_step c) → table d rel.broken_step ≡ broken_at c (wired order done) true → rel.bits ≡ length order → lists_of d rel ≡ lists_over c (wired order done)
 unfolding lists_of
-lists_are c order d rel n0 l0 t0 n1 l1 t1 bits =
+lists_are c order done d rel n0 l0 t0 n1 l1 t1 bits =
     (λ i. record { now_first = n0 i; before_first = l0 i; broken_first = t0 i; now_step = n1 i; before_step = l1 i; broken_step = t1 i; bits = bits i })
-    ∙ sym (lists_ordered c order)
+    ∙ sym (lists_wired c order done)
 
 -- ---- a Rel
 
@@ -128,12 +129,11 @@ live_one d r rs is all = live_each d (r ∷ rs) (λ q one. by q one)
 live_none : (d : Diagram) → AreLive d []
 live_none d = live_each d [] (λ q one. absurd one)
 
-pub rel_is : (d : Diagram) (rel : Rel) (p : Problem) → IsProblem p → (order : List ℕ) → OfCases p (λ c. lists_of d rel ≡ lists_over c (arranged order)) → OfCases p (λ c. d.vars ≡ 2 * state_bits c)
+pub rel_is : (d : Diagram) (rel : Rel) (p : Problem) (c : PosedCase) → p ≡ written c → IsWellFormed c → (o : Arrangement) → lists_of d rel ≡ lists_over c o → OfCases p (λ c. d.vars ≡ 2 * state_bits c)
     → AreLive d rel.now_first.items → AreLive d rel.before_first.items → IsLive d rel.broken_first → AreLive d rel.now_step.items → AreLive d rel.before_step.items → IsLive d rel.broken_step → OfCases p (λ c. rel.bits ≡ state_bits c) → IsRel d rel
 unfolding lists_of refs_of
-rel_is d rel p (c, is, well) order lists vars n0 l0 t0 n1 l1 t1 bits =
-    let e : lists_of d rel ≡ lists_over c (arranged order) = lists c is well in
-    let lists_of_case : IsLists (lists_over c (arranged order)) = are_lists c (arranged order) in
+rel_is d rel p c is well o e vars n0 l0 t0 n1 l1 t1 bits =
+    let lists_of_case : IsLists (lists_over c o) = are_lists c o in
     record {
       vars = vars c is well ∙ ap (λ (n : ℕ). 2 * n) (sym (bits c is well));
       live = live_append d rel.now_first.items _ n0 (live_append d rel.before_first.items _ l0 (live_one d rel.broken_first _ t0 (live_append d rel.now_step.items _ n1 (live_append d rel.before_step.items _ l1 (live_one d rel.broken_step [] t1 (live_none d))))));

@@ -6,7 +6,8 @@ use Rattle.law_obligations.specs.Places.{AbsOutcome}
 use Rattle.law_obligations.specs.May.{AbsState}
 use Rattle.law_obligations.specs.Cones.{AbsElement}
 use Rattle.law_obligations.specs.Codes.{code_from, value_of_code}
-use Rattle.law_obligations.specs.Readings.{PosedCase, bits_of, values_of, reading}
+use Rattle.law_obligations.specs.Bits.{Bits}
+use Rattle.law_obligations.specs.Readings.{PosedCase, bits_of, values_of}
 use Rattle.smv_spots.specs.declared.spots.Spot.{Spot}
 use Rattle.smv_spots.specs.Spots.{place_in}
 use Rattle.smv_problem.specs.declared.problem.Problem.{Problem}
@@ -14,19 +15,23 @@ use Rattle.smv_readings.specs.StateBits.{count_for}
 use Rattle.bdd_store.specs.declared.Ref.{Ref}
 use Rattle.bdd_store.specs.Diagram.{Diagram, table}
 use Rattle.bdd_codes.specs.Codes.{bits_at}
-use Rattle.law_arrangements.specs.Arrangements.{spread}
+use Rattle.law_arrangements.specs.Arrangements.{Arrangement, spread, IsState, view}
 use Rattle.smv_conditions.specs.declared.offers.Offer.{Offer}
 use Rattle.smv_conditions.specs.Offers.{any_offer}
 use Rattle.smv_cells.specs.declared.cells.Cell.{Cell}
 use Rattle.smv_cells.specs.Seen.{View}
 
--- the state that the current bits of an assignment are read as, or that of the next bits, where the bits of a case stand in an order
-abbrev pub state_at : PosedCase → List ℕ → Bool → (ℕ → Bool) → AbsState
-state_at c order next a = reading c (spread order (bits_at next a))
+-- the state that the current bits of an assignment are read as over an arrangement, or that of the next bits
+abbrev pub state_at : PosedCase → Arrangement → Bool → (ℕ → Bool) → AbsState
+state_at c o next a = view c o (bits_at next a)
 
 -- a case in these states
-abbrev pub view_at : PosedCase → List ℕ → Bool → View
-view_at c order next = record { world = c.problem.world; kept = c.problem.kept; state = state_at c order next }
+abbrev pub view_at : PosedCase → Arrangement → Bool → View
+view_at c o next = record { world = c.problem.world; kept = c.problem.kept; state = state_at c o next }
+
+-- whatever is read is a state of the case
+abbrev pub AreStates : PosedCase → Arrangement → Type 0
+AreStates c o = (s : Bits) → IsState c (view c o s)
 
 -- values, each under its condition
 abbrev pub paired : List Spot → List Ref → List (Offer Ref)

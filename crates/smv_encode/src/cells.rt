@@ -5,7 +5,8 @@ ghost use Rattle.bdd_codes.specs.Codes.{AreWithin};
 ghost use Rattle.smv_readings.specs.StateBits.{bits_in};
 ghost use Rattle.smv_problem.specs.WellFormed.{IsProblem, OfCases};
 ghost use Rattle.smv_orders.specs.Places.{ArePlaces};
-ghost use Rattle.smv_encode.specs.Encoded.{AreLiveCells, AreCellsOf};
+ghost use Rattle.law_arrangements.specs.Orders.{arranged};
+ghost use Rattle.smv_encode.specs.Encoded.{AreLiveCells, AreCellsOf, AreCodedCells};
 
 use crate::coded::cells_at;
 use bdd_store::{Ref, Store};
@@ -41,7 +42,7 @@ pub(crate) fn nothing_known_of_case<'a>(alloc: Global) -> CaseKnown<'a>
 }
 
 /// The cells of a problem, by the places of all bits.
-pub(crate) fn cells_of(
+pub fn cells_of(
     alloc: Global,
     problem: &Problem,
     store: &mut Store,
@@ -52,7 +53,8 @@ pub(crate) fn cells_of(
     requires places { AreWithin store.old places.now }
     ensures keeps { Keeps store.old store.new }
     ensures live { IfOk result (λ cells. AreLiveCells store.new cells) }
-    ensures cells { IfOk result (λ cells. OfCases problem.entry.now (λ c. (order : List ℕ) → ArePlaces order 0 places.now → AreCellsOf c order store.new problem.entry.now cells)) }
+    ensures cells { IfOk result (λ cells. OfCases problem.entry.now (λ c. (order : List ℕ) → ArePlaces order 0 places.now → AreCellsOf c (arranged order) store.new problem.entry.now cells)) }
+    ensures coded { IfOk result (λ cells. OfCases problem.entry.now (λ c. (order : List ℕ) → ArePlaces order 0 places.now → AreCodedCells c order store.new cells)) }
 {
     let current = cells_at(alloc, problem, store, false, places)?;
     let next = cells_at(alloc, problem, store, true, places)?;

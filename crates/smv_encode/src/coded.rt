@@ -13,6 +13,7 @@ ghost use Rattle.bdd_store.specs.declared.Ref.{Ref};
 ghost use Rattle.bdd_store.specs.Diagram.{IsLive, Keeps, table};
 ghost use Rattle.bdd_codes.specs.Codes.{bits_at, AreWithin};
 ghost use Rattle.law_arrangements.specs.Arrangements.{spread};
+ghost use Rattle.law_arrangements.specs.Orders.{arranged};
 ghost use Rattle.smv_conditions.specs.Offers.{AreOffersMade};
 ghost use Rattle.smv_cells.specs.Cells.{AreCellsMade};
 ghost use Rattle.smv_cells.specs.Seen.{IsSeen};
@@ -165,7 +166,8 @@ pub(crate) fn cells_at(
     requires places { AreWithin store.old places.now }
     ensures keeps { Keeps store.old store.new }
     ensures made { IfOk result (λ cells. AreCellsMade (IsLive store.new) cells.items) }
-    ensures seen { IfOk result (λ cells. OfCases problem.entry.now (λ c. (order : List ℕ) → ArePlaces order 0 places.now → IsSeen table store.new problem.entry.now cells.items (view_at c order next))) }
+    ensures seen { IfOk result (λ cells. OfCases problem.entry.now (λ c. (order : List ℕ) → ArePlaces order 0 places.now → IsSeen table store.new problem.entry.now cells.items (view_at c (arranged order) next))) }
+    ensures coded { IfOk result (λ cells. OfCases problem.entry.now (λ c. (order : List ℕ) → ArePlaces order 0 places.now → AreCoded c order store.new next 0 c.elements cells.items)) }
 {
     let mut cells = Vec::new(alloc);
     add_cells(

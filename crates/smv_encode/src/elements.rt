@@ -1,19 +1,20 @@
 // The functions of demands and of elements, put behind a list.
-ghost use Rattle.std.specs.Prelude.{◌≡◌, ◌≤◌, ◌&&◌, ℕ, length, List, [], ◌∷◌, map, filter, flat_map, if◌then◌else◌, Bool, true, IfOk, OnOk};
-ghost use Rattle.std.specs.List.{list_all};
+ghost use Rattle.std.specs.Prelude.{◌≡◌, ◌≤◌, ◌&&◌, ◌++◌, ℕ, length, List, [], ◌∷◌, map, filter, flat_map, if◌then◌else◌, Bool, true, IfOk, OnOk};
+ghost use Rattle.std.specs.List.{list_all, list_any};
 ghost use Rattle.bdd_store.specs.Diagram.{IsLive, AreLive, Keeps, table};
 ghost use Rattle.law_obligations.specs.Obligations.{Demanded};
 ghost use Rattle.law_obligations.specs.Cones.{AbsElement};
 ghost use Rattle.law_obligations.specs.Readings.{Slot, slots_from};
 ghost use Rattle.law_reports.specs.CaseLists.{is_claim as is_claim_of, those_of};
-ghost use Rattle.law_arrangements.specs.Orders.{arranged};
+ghost use Rattle.law_arrangements.specs.Arrangements.{Arrangement};
 ghost use Rattle.law_arrangements.specs.ArrangedLists.{met_step};
 ghost use Rattle.bdd_codes.specs.Codes.{AreWithin};
 ghost use Rattle.smv_orders.specs.Places.{ArePlaces};
+ghost use Rattle.smv_elements.specs.Elements.{same_element};
 ghost use Rattle.smv_problem.specs.WellFormed.{OfCases};
 ghost use Rattle.smv_readings.specs.StateBits.{bits_of_family, bits_of_elements};
 ghost use Rattle.smv_encode.specs.Encoded.{met_at as met_function, AreLiveCells, AreCellsOf, AreKnownOfCase};
-ghost use Rattle.smv_encode.specs.Parts.{AreDemands, AreElements, AddsFunctions, element_at as element_function, is_turn};
+ghost use Rattle.smv_encode.specs.Parts.{AreDemands, AreElements, AddsFunctions, element_at as element_function, is_turn, has_turn};
 
 use crate::cells::{CaseKnown, Cells};
 use crate::chosen::{defines, is_claim, moves};
@@ -22,6 +23,7 @@ use crate::times::met_at;
 use bdd_ops::and;
 use bdd_store::{Ref, Store};
 use smv_core::flat::Element;
+use smv_elements::order::is_same;
 use smv_problem::{Demand, Problem};
 use std::alloc::{AllocError, Global};
 
@@ -50,7 +52,7 @@ fn add_met<'a>(
     ensures keeps { Keeps store.old store.new }
     ensures out { OnOk result (AreLive store.new out.new.items) }
     ensures known { OnOk result (AreKnownOfCase store.new problem.entry.now cells.now known.new) }
-    ensures adds { OnOk result (OfCases problem.entry.now (λ c. (order : List ℕ) → AreCellsOf c order store.old problem.entry.now cells.now → (d : Demanded) → AreDemands c (d ∷ []) (demand.now ∷ []) → AddsFunctions store.old store.new out.old.items out.new.items (met_function c order step d ∷ []))) }
+    ensures adds { OnOk result (OfCases problem.entry.now (λ c. (o : Arrangement) → AreCellsOf c o store.old problem.entry.now cells.now → (d : Demanded) → AreDemands c (d ∷ []) (demand.now ∷ []) → AddsFunctions store.old store.new out.old.items out.new.items (met_function c o step d ∷ []))) }
 {
     let r = met_at(alloc, problem, cells, known, step, demand, store)?;
     out.push(r)?;
@@ -74,7 +76,7 @@ pub fn add_all<'a>(
     ensures keeps { Keeps store.old store.new }
     ensures out { OnOk result (AreLive store.new out.new.items) }
     ensures known { OnOk result (AreKnownOfCase store.new problem.entry.now cells.now known.new) }
-    ensures adds { OnOk result (OfCases problem.entry.now (λ c. (order : List ℕ) → AreCellsOf c order store.old problem.entry.now cells.now → (ds : List Demanded) → AreDemands c ds demands.now → AddsFunctions store.old store.new out.old.items out.new.items (map (met_function c order step) ds))) }
+    ensures adds { OnOk result (OfCases problem.entry.now (λ c. (o : Arrangement) → AreCellsOf c o store.old problem.entry.now cells.now → (ds : List Demanded) → AreDemands c ds demands.now → AddsFunctions store.old store.new out.old.items out.new.items (map (met_function c o step) ds))) }
 {
     for demand in demands {
         add_met(alloc, problem, cells, known, step, demand, store, out)?;
@@ -100,7 +102,7 @@ fn add_met_if<'a>(
     ensures keeps { Keeps store.old store.new }
     ensures out { OnOk result (AreLive store.new out.new.items) }
     ensures known { OnOk result (AreKnownOfCase store.new problem.entry.now cells.now known.new) }
-    ensures adds { OnOk result (OfCases problem.entry.now (λ c. (order : List ℕ) → AreCellsOf c order store.old problem.entry.now cells.now → (d : Demanded) → AreDemands c (d ∷ []) (demand.now ∷ []) → AddsFunctions store.old store.new out.old.items out.new.items (if taken then met_function c order step d ∷ [] else []))) }
+    ensures adds { OnOk result (OfCases problem.entry.now (λ c. (o : Arrangement) → AreCellsOf c o store.old problem.entry.now cells.now → (d : Demanded) → AreDemands c (d ∷ []) (demand.now ∷ []) → AddsFunctions store.old store.new out.old.items out.new.items (if taken then met_function c o step d ∷ [] else []))) }
 {
     if taken {
         add_met(alloc, problem, cells, known, step, demand, store, out)?;
@@ -126,7 +128,7 @@ pub fn add_claims<'a>(
     ensures keeps { Keeps store.old store.new }
     ensures out { OnOk result (AreLive store.new out.new.items) }
     ensures known { OnOk result (AreKnownOfCase store.new problem.entry.now cells.now known.new) }
-    ensures adds { OnOk result (OfCases problem.entry.now (λ c. (order : List ℕ) → AreCellsOf c order store.old problem.entry.now cells.now → (ds : List Demanded) → AreDemands c ds demands.now → AddsFunctions store.old store.new out.old.items out.new.items (map (met_function c order step) (filter is_claim_of ds)))) }
+    ensures adds { OnOk result (OfCases problem.entry.now (λ c. (o : Arrangement) → AreCellsOf c o store.old problem.entry.now cells.now → (ds : List Demanded) → AreDemands c ds demands.now → AddsFunctions store.old store.new out.old.items out.new.items (map (met_function c o step) (filter is_claim_of ds)))) }
 {
     for demand in demands {
         let taken = is_claim(demand);
@@ -155,7 +157,7 @@ fn add_own<'a>(
     ensures keeps { Keeps store.old store.new }
     ensures out { OnOk result (AreLive store.new out.new.items) }
     ensures known { OnOk result (AreKnownOfCase store.new problem.entry.now cells.now known.new) }
-    ensures adds { OnOk result (OfCases problem.entry.now (λ c. (order : List ℕ) → AreCellsOf c order store.old problem.entry.now cells.now → (x : AbsElement) → AreElements c (x ∷ []) (element.now ∷ []) → (ds : List Demanded) → AreDemands c ds demands.now → AddsFunctions store.old store.new out.old.items out.new.items (map (met_function c order step) (those_of ds x)))) }
+    ensures adds { OnOk result (OfCases problem.entry.now (λ c. (o : Arrangement) → AreCellsOf c o store.old problem.entry.now cells.now → (x : AbsElement) → AreElements c (x ∷ []) (element.now ∷ []) → (ds : List Demanded) → AreDemands c ds demands.now → AddsFunctions store.old store.new out.old.items out.new.items (map (met_function c o step) (those_of ds x)))) }
 {
     for demand in demands {
         let taken = defines(element, demand);
@@ -184,7 +186,7 @@ fn met_too<'a>(
     ensures keeps { Keeps store.old store.new }
     ensures live { IfOk result (λ r. IsLive store.new r) }
     ensures known { IfOk result (λ r. AreKnownOfCase store.new problem.entry.now cells.now known.new) }
-    ensures means { IfOk result (λ r. OfCases problem.entry.now (λ c. (order : List ℕ) → AreCellsOf c order store.old problem.entry.now cells.now → (d : Demanded) → AreDemands c (d ∷ []) (demand.now ∷ []) → (a : ℕ → Bool) → table store.new r a ≡ (table store.old others a && (if taken then met_function c order step d a else true)))) }
+    ensures means { IfOk result (λ r. OfCases problem.entry.now (λ c. (o : Arrangement) → AreCellsOf c o store.old problem.entry.now cells.now → (d : Demanded) → AreDemands c (d ∷ []) (demand.now ∷ []) → (a : ℕ → Bool) → table store.new r a ≡ (table store.old others a && (if taken then met_function c o step d a else true)))) }
 {
     if taken {
         let met = met_at(alloc, problem, cells, known, step, demand, store)?;
@@ -210,7 +212,7 @@ fn own_met<'a>(
     ensures keeps { Keeps store.old store.new }
     ensures live { IfOk result (λ r. IsLive store.new r) }
     ensures known { IfOk result (λ r. AreKnownOfCase store.new problem.entry.now cells.now known.new) }
-    ensures means { IfOk result (λ r. OfCases problem.entry.now (λ c. (order : List ℕ) → AreCellsOf c order store.old problem.entry.now cells.now → (x : AbsElement) → AreElements c (x ∷ []) (element.now ∷ []) → (ds : List Demanded) → AreDemands c ds demands.now → (a : ℕ → Bool) → table store.new r a ≡ list_all (λ d. met_function c order step d a) (those_of ds x))) }
+    ensures means { IfOk result (λ r. OfCases problem.entry.now (λ c. (o : Arrangement) → AreCellsOf c o store.old problem.entry.now cells.now → (x : AbsElement) → AreElements c (x ∷ []) (element.now ∷ []) → (ds : List Demanded) → AreDemands c ds demands.now → (a : ℕ → Bool) → table store.new r a ≡ list_all (λ d. met_function c o step d a) (those_of ds x))) }
 {
     let mut r = store.constant(true);
     for demand in demands {
@@ -238,7 +240,7 @@ fn element_at<'a>(
     ensures keeps { Keeps store.old store.new }
     ensures live { IfOk result (λ r. IsLive store.new r) }
     ensures known { IfOk result (λ r. AreKnownOfCase store.new problem.entry.now cells.now known.new) }
-    ensures means { IfOk result (λ r. OfCases problem.entry.now (λ c. (order : List ℕ) → AreCellsOf c order store.old problem.entry.now cells.now → (x : AbsElement) → AreElements c (x ∷ []) (element.now ∷ []) → (bit : ℕ) → ArePlaces order bit places.now → table store.new r ≡ element_function c order step (record { element = x; bit = bit }))) }
+    ensures means { IfOk result (λ r. OfCases problem.entry.now (λ c. (o : Arrangement) → AreCellsOf c o store.old problem.entry.now cells.now → (x : AbsElement) → AreElements c (x ∷ []) (element.now ∷ []) → (bit : ℕ) → ArePlaces o.order bit places.now → table store.new r ≡ element_function c o step (record { element = x; bit = bit }))) }
 {
     let value = value_at(alloc, problem, store, step, places, element.family)?;
     let demands = problem.now.as_slice();
@@ -270,6 +272,35 @@ fn is_its_turn(
     }
 }
 
+// One of these elements.
+fn is_among(element: &Element, wires: &[Element]) -> bool
+    ensures { result ≡ list_any (same_element element.now) wires.now }
+{
+    for wire in wires {
+        if is_same(element, wire) {
+            return true;
+        }
+    }
+    false
+}
+
+// It is an element's turn, by the demands of now, and it is no wire.
+fn is_taken(
+    alloc: Global,
+    problem: &Problem,
+    turn: Turn,
+    wires: &[Element],
+    element: &Element,
+) -> Result<bool, AllocError>
+    ensures { IfOk result (λ taken. OfCases problem.entry.now (λ c. (o : Arrangement) → AreElements c (o.determined ++ o.idle) wires.now → (x : AbsElement) → AreElements c (x ∷ []) (element.now ∷ []) → (bit : ℕ) → taken ≡ has_turn o c.problem.now turn (record { element = x; bit = bit }))) }
+{
+    if is_among(element, wires) {
+        return Ok(false);
+    }
+    let taken = is_its_turn(alloc, problem, problem.now.as_slice(), turn, element)?;
+    Ok(taken)
+}
+
 // The function of an element, where it is taken.
 fn add_element_if<'a>(
     alloc: Global,
@@ -291,7 +322,7 @@ fn add_element_if<'a>(
     ensures keeps { Keeps store.old store.new }
     ensures out { OnOk result (AreLive store.new out.new.items) }
     ensures known { OnOk result (AreKnownOfCase store.new problem.entry.now cells.now known.new) }
-    ensures adds { OnOk result (OfCases problem.entry.now (λ c. (order : List ℕ) → AreCellsOf c order store.old problem.entry.now cells.now → (x : AbsElement) → AreElements c (x ∷ []) (element.now ∷ []) → (bit : ℕ) → ArePlaces order bit places.now → AddsFunctions store.old store.new out.old.items out.new.items (if taken then element_function c order step (record { element = x; bit = bit }) ∷ [] else []))) }
+    ensures adds { OnOk result (OfCases problem.entry.now (λ c. (o : Arrangement) → AreCellsOf c o store.old problem.entry.now cells.now → (x : AbsElement) → AreElements c (x ∷ []) (element.now ∷ []) → (bit : ℕ) → ArePlaces o.order bit places.now → AddsFunctions store.old store.new out.old.items out.new.items (if taken then element_function c o step (record { element = x; bit = bit }) ∷ [] else []))) }
 {
     if taken {
         let r = element_at(alloc, problem, cells, known, step, places, element, store)?;
@@ -301,7 +332,7 @@ fn add_element_if<'a>(
     Ok(())
 }
 
-/// The functions of the elements whose turn it is, by the demands of now. The bits of the elements have these places.
+/// The functions of the elements whose turn it is, by the demands of now, but for the wires, which have none. The bits of the elements have these places.
 pub(crate) fn add_elements<'a>(
     alloc: Global,
     problem: &'a Problem,
@@ -309,6 +340,7 @@ pub(crate) fn add_elements<'a>(
     known: &mut CaseKnown<'a>,
     step: bool,
     turn: Turn,
+    wires: &[Element],
     places: &[u16],
     elements: &[Element],
     store: &mut Store,
@@ -322,19 +354,19 @@ pub(crate) fn add_elements<'a>(
     ensures keeps { Keeps store.old store.new }
     ensures out { OnOk result (AreLive store.new out.new.items) }
     ensures known { OnOk result (AreKnownOfCase store.new problem.entry.now cells.now known.new) }
-    ensures adds { OnOk result (OfCases problem.entry.now (λ c. (order : List ℕ) → AreCellsOf c order store.old problem.entry.now cells.now → (xs : List AbsElement) → AreElements c xs elements.now → (bit : ℕ) → ArePlaces order bit places.now → AddsFunctions store.old store.new out.old.items out.new.items (map (element_function c order step) (filter (is_turn c.problem.now turn) (slots_from c.problem.world bit xs))))) }
+    ensures adds { OnOk result (OfCases problem.entry.now (λ c. (o : Arrangement) → AreCellsOf c o store.old problem.entry.now cells.now → AreElements c (o.determined ++ o.idle) wires.now → (xs : List AbsElement) → AreElements c xs elements.now → (bit : ℕ) → ArePlaces o.order bit places.now → AddsFunctions store.old store.new out.old.items out.new.items (map (element_function c o step) (filter (has_turn o c.problem.now turn) (slots_from c.problem.world bit xs))))) }
 {
     let _ = store.vars();
     let Some((element, others)) = elements.split_first() else {
         return Ok(());
     };
-    let taken = is_its_turn(alloc, problem, problem.now.as_slice(), turn, element)?;
+    let taken = is_taken(alloc, problem, turn, wires, element)?;
     let (own, behind) = places.split_at(width(problem, element.family) as usize);
     add_element_if(
         alloc, problem, cells, known, step, taken, own, element, store, out,
     )?;
     add_elements(
-        alloc, problem, cells, known, step, turn, behind, others, store, out,
+        alloc, problem, cells, known, step, turn, wires, behind, others, store, out,
     )?;
     Ok(())
 }
@@ -356,7 +388,7 @@ fn add_own_if<'a>(
     ensures keeps { Keeps store.old store.new }
     ensures out { OnOk result (AreLive store.new out.new.items) }
     ensures known { OnOk result (AreKnownOfCase store.new problem.entry.now cells.now known.new) }
-    ensures adds { OnOk result (OfCases problem.entry.now (λ c. (order : List ℕ) → AreCellsOf c order store.old problem.entry.now cells.now → (x : AbsElement) → AreElements c (x ∷ []) (element.now ∷ []) → AddsFunctions store.old store.new out.old.items out.new.items (map (met_step c (arranged order)) (if taken then those_of c.problem.before x else [])))) }
+    ensures adds { OnOk result (OfCases problem.entry.now (λ c. (o : Arrangement) → AreCellsOf c o store.old problem.entry.now cells.now → (x : AbsElement) → AreElements c (x ∷ []) (element.now ∷ []) → AddsFunctions store.old store.new out.old.items out.new.items (map (met_step c o) (if taken then those_of c.problem.before x else [])))) }
 {
     if taken {
         let demands = problem.before.as_slice();
@@ -385,7 +417,7 @@ pub(crate) fn add_before<'a>(
     ensures keeps { Keeps store.old store.new }
     ensures out { OnOk result (AreLive store.new out.new.items) }
     ensures known { OnOk result (AreKnownOfCase store.new problem.entry.now cells.now known.new) }
-    ensures adds { OnOk result (OfCases problem.entry.now (λ c. (order : List ℕ) → AreCellsOf c order store.old problem.entry.now cells.now → (xs : List AbsElement) → AreElements c xs elements.now → (bit : ℕ) → AddsFunctions store.old store.new out.old.items out.new.items (map (met_step c (arranged order)) (flat_map (λ (slot : Slot). those_of c.problem.before slot.element) (filter (is_turn c.problem.before turn) (slots_from c.problem.world bit xs)))))) }
+    ensures adds { OnOk result (OfCases problem.entry.now (λ c. (o : Arrangement) → AreCellsOf c o store.old problem.entry.now cells.now → (xs : List AbsElement) → AreElements c xs elements.now → (bit : ℕ) → AddsFunctions store.old store.new out.old.items out.new.items (map (met_step c o) (flat_map (λ (slot : Slot). those_of c.problem.before slot.element) (filter (is_turn c.problem.before turn) (slots_from c.problem.world bit xs)))))) }
 {
     let Some((element, others)) = elements.split_first() else {
         return Ok(());

@@ -1,21 +1,25 @@
 // The six lists.
 ghost use Rattle.std.specs.Prelude.{◌≡◌, ◌*◌, ◌≤◌, ◌++◌, ℕ, List, length, map, false, true, IfOk};
 ghost use Rattle.bdd_store.specs.Diagram.{AreLive, Keeps, table};
-ghost use Rattle.law_obligations.specs.Readings.{slots, state_bits as bits_of_case};
+ghost use Rattle.law_obligations.specs.Readings.{state_bits as bits_of_case};
 ghost use Rattle.law_reports.specs.CaseLists.{moving_first, claims, before_in_step, IsListsOf};
-ghost use Rattle.law_arrangements.specs.Orders.{arranged, IsOrder};
-ghost use Rattle.law_arrangements.specs.ArrangedLists.{element_first, element_step, met_first, met_step, lists_over};
+ghost use Rattle.law_obligations.specs.Cones.{AbsElement};
+ghost use Rattle.law_arrangements.specs.Arrangements.{Arrangement};
+ghost use Rattle.law_arrangements.specs.Orders.{arranged, wired, IsOrder};
+ghost use Rattle.law_arrangements.specs.ArrangedLists.{element_first, element_step, met_first, met_step, slots_over, lists_over};
 ghost use Rattle.bdd_codes.specs.Codes.{AreWithin};
 ghost use Rattle.smv_readings.specs.StateBits.{bits_in};
 ghost use Rattle.smv_orders.specs.Places.{ArePlaces};
 ghost use Rattle.smv_rings.specs.Lists.{IsRel, lists_of};
 ghost use Rattle.smv_problem.specs.WellFormed.{IsProblem, OfCases};
 ghost use Rattle.smv_encode.specs.Encoded.{AreLiveCells, AreCellsOf, AreKnownOfCase};
+ghost use Rattle.smv_encode.specs.Parts.{AreElements, AreWiredCells};
 
 use crate::cells::{CaseKnown, Cells, cells_of, nothing_known_of_case};
 use crate::elements::{Turn, add_all, add_before, add_claims, add_elements};
 use crate::times::{broken_first_by, broken_step_by};
 use bdd_store::{Ref, Store};
+use smv_core::flat::Element;
 use smv_orders::{declared_order, places_in};
 use smv_problem::Problem;
 use smv_readings::state_bits;
@@ -27,6 +31,7 @@ fn now_first<'a>(
     alloc: Global,
     problem: &'a Problem,
     places: &[u16],
+    wires: &[Element],
     cells: &Cells,
     known: &mut CaseKnown<'a>,
     store: &mut Store,
@@ -38,7 +43,7 @@ fn now_first<'a>(
     ensures keeps { Keeps store.old store.new }
     ensures live { IfOk result (λ refs. AreLive store.new refs.items) }
     ensures known { IfOk result (λ refs. AreKnownOfCase store.new problem.entry.now cells.now known.new) }
-    ensures list { IfOk result (λ refs. OfCases problem.entry.now (λ c. (order : List ℕ) → AreCellsOf c order store.old problem.entry.now cells.now → ArePlaces order 0 places.now → map (table store.new) refs.items ≡ map (element_first c (arranged order)) (slots c) ++ map (met_first c (arranged order)) (claims c c.problem.now))) }
+    ensures list { IfOk result (λ refs. OfCases problem.entry.now (λ c. (o : Arrangement) → AreCellsOf c o store.old problem.entry.now cells.now → AreElements c (o.determined ++ o.idle) wires.now → ArePlaces o.order 0 places.now → map (table store.new) refs.items ≡ map (element_first c o) (slots_over c o) ++ map (met_first c o) (claims c c.problem.now))) }
 {
     let elements = problem.elements.as_slice();
     let demands = problem.now.as_slice();
@@ -50,6 +55,7 @@ fn now_first<'a>(
         known,
         false,
         Turn::All,
+        wires,
         places,
         elements,
         store,
@@ -74,7 +80,7 @@ fn before_first<'a>(
     ensures keeps { Keeps store.old store.new }
     ensures live { IfOk result (λ refs. AreLive store.new refs.items) }
     ensures known { IfOk result (λ refs. AreKnownOfCase store.new problem.entry.now cells.now known.new) }
-    ensures list { IfOk result (λ refs. OfCases problem.entry.now (λ c. (order : List ℕ) → AreCellsOf c order store.old problem.entry.now cells.now → map (table store.new) refs.items ≡ map (met_first c (arranged order)) c.problem.before)) }
+    ensures list { IfOk result (λ refs. OfCases problem.entry.now (λ c. (o : Arrangement) → AreCellsOf c o store.old problem.entry.now cells.now → map (table store.new) refs.items ≡ map (met_first c o) c.problem.before)) }
 {
     let demands = problem.before.as_slice();
     let mut refs = Vec::new(alloc);
@@ -89,6 +95,7 @@ fn now_step<'a>(
     alloc: Global,
     problem: &'a Problem,
     places: &[u16],
+    wires: &[Element],
     cells: &Cells,
     known: &mut CaseKnown<'a>,
     store: &mut Store,
@@ -100,7 +107,7 @@ fn now_step<'a>(
     ensures keeps { Keeps store.old store.new }
     ensures live { IfOk result (λ refs. AreLive store.new refs.items) }
     ensures known { IfOk result (λ refs. AreKnownOfCase store.new problem.entry.now cells.now known.new) }
-    ensures list { IfOk result (λ refs. OfCases problem.entry.now (λ c. (order : List ℕ) → AreCellsOf c order store.old problem.entry.now cells.now → ArePlaces order 0 places.now → map (table store.new) refs.items ≡ map (element_step c (arranged order)) (moving_first c.problem.now (slots c)) ++ map (met_step c (arranged order)) (claims c c.problem.now))) }
+    ensures list { IfOk result (λ refs. OfCases problem.entry.now (λ c. (o : Arrangement) → AreCellsOf c o store.old problem.entry.now cells.now → AreElements c (o.determined ++ o.idle) wires.now → ArePlaces o.order 0 places.now → map (table store.new) refs.items ≡ map (element_step c o) (moving_first c.problem.now (slots_over c o)) ++ map (met_step c o) (claims c c.problem.now))) }
 {
     let elements = problem.elements.as_slice();
     let demands = problem.now.as_slice();
@@ -112,6 +119,7 @@ fn now_step<'a>(
         known,
         true,
         Turn::Moving,
+        wires,
         places,
         elements,
         store,
@@ -124,6 +132,7 @@ fn now_step<'a>(
         known,
         true,
         Turn::Others,
+        wires,
         places,
         elements,
         store,
@@ -148,7 +157,7 @@ fn before_step<'a>(
     ensures keeps { Keeps store.old store.new }
     ensures live { IfOk result (λ refs. AreLive store.new refs.items) }
     ensures known { IfOk result (λ refs. AreKnownOfCase store.new problem.entry.now cells.now known.new) }
-    ensures list { IfOk result (λ refs. OfCases problem.entry.now (λ c. (order : List ℕ) → AreCellsOf c order store.old problem.entry.now cells.now → map (table store.new) refs.items ≡ map (met_step c (arranged order)) (before_in_step c))) }
+    ensures list { IfOk result (λ refs. OfCases problem.entry.now (λ c. (o : Arrangement) → AreCellsOf c o store.old problem.entry.now cells.now → map (table store.new) refs.items ≡ map (met_step c o) (before_in_step c))) }
 {
     let elements = problem.elements.as_slice();
     let demands = problem.before.as_slice();
@@ -179,7 +188,45 @@ fn before_step<'a>(
     Ok(refs)
 }
 
-// The lists of functions of a problem, by the places of all bits.
+/// The lists of functions of a problem by these cells, where the bits of all elements have these places. Wires, which are worked out, have cells and no function.
+pub fn relations_by(
+    alloc: Global,
+    problem: &Problem,
+    places: &[u16],
+    wires: &[Element],
+    cells: &Cells,
+    store: &mut Store,
+) -> Result<Rel, AllocError>
+    requires well_formed { IsProblem problem.now }
+    requires vars { OfCases problem.now (λ c. store.old.vars ≡ 2 * bits_of_case c) }
+    requires count { OfCases problem.now (λ c. length places.now ≡ bits_of_case c) }
+    requires places { AreWithin store.old places.now }
+    requires cells { AreLiveCells store.old cells.now }
+    ensures rel { IfOk result (λ rel. OfCases problem.entry.now (λ c. (order : List ℕ) (done : List AbsElement) → AreWiredCells c order done store.old problem.entry.now places.now wires.now cells.now → IsRel store.new rel)) }
+    ensures lists { IfOk result (λ rel. OfCases problem.entry.now (λ c. (order : List ℕ) (done : List AbsElement) → AreWiredCells c order done store.old problem.entry.now places.now wires.now cells.now → lists_of store.new rel ≡ lists_over c (wired order done))) }
+    ensures keeps { Keeps store.old store.new }
+{
+    let mut known = nothing_known_of_case(alloc);
+    let now_first = now_first(alloc, problem, places, wires, cells, &mut known, store)?;
+    let before_first = before_first(alloc, problem, cells, &mut known, store)?;
+    let current = cells.current.as_slice();
+    let broken_first = broken_first_by(alloc, problem, current, &mut known.current, store)?;
+    let now_step = now_step(alloc, problem, places, wires, cells, &mut known, store)?;
+    let before_step = before_step(alloc, problem, cells, &mut known, store)?;
+    let broken_step = broken_step_by(alloc, problem, cells, &mut known, store)?;
+    let bits = state_bits(problem);
+    Ok(Rel {
+        now_first,
+        before_first,
+        broken_first,
+        now_step,
+        before_step,
+        broken_step,
+        bits,
+    })
+}
+
+// The lists of functions of a problem without wires, by the places of all bits.
 fn relations_at(
     alloc: Global,
     problem: &Problem,
@@ -195,24 +242,9 @@ fn relations_at(
     ensures keeps { Keeps store.old store.new }
 {
     let cells = cells_of(alloc, problem, store, places)?;
-    let mut known = nothing_known_of_case(alloc);
-    let now_first = now_first(alloc, problem, places, &cells, &mut known, store)?;
-    let before_first = before_first(alloc, problem, &cells, &mut known, store)?;
-    let current = cells.current.as_slice();
-    let broken_first = broken_first_by(alloc, problem, current, &mut known.current, store)?;
-    let now_step = now_step(alloc, problem, places, &cells, &mut known, store)?;
-    let before_step = before_step(alloc, problem, &cells, &mut known, store)?;
-    let broken_step = broken_step_by(alloc, problem, &cells, &mut known, store)?;
-    let bits = state_bits(problem);
-    Ok(Rel {
-        now_first,
-        before_first,
-        broken_first,
-        now_step,
-        before_step,
-        broken_step,
-        bits,
-    })
+    let wires = Vec::new(alloc);
+    let rel = relations_by(alloc, problem, places, wires.as_slice(), &cells, store)?;
+    Ok(rel)
 }
 
 /// The lists of functions of a problem whose bits stand in this order.

@@ -1,18 +1,18 @@
 // Demands, the target and guards by cells that are made.
-ghost use Rattle.std.specs.Prelude.{◌≡◌, ℕ, List, Bool, true, false, Some, None, IfOk};
+ghost use Rattle.std.specs.Prelude.{◌≡◌, ℕ, Bool, true, false, Some, None, IfOk};
 ghost use Rattle.std.specs.List.{list_all};
 ghost use Rattle.bdd_store.specs.Diagram.{IsLive, Keeps, table};
 ghost use Rattle.law_obligations.specs.Sets.{Has};
 ghost use Rattle.law_obligations.specs.Obligations.{Demanded, is_broken, may_hold as may_hold_in};
 ghost use Rattle.smv_core.specs.declared.flat.Guard.{Guard as GuardData};
-ghost use Rattle.law_arrangements.specs.Orders.{arranged};
+ghost use Rattle.law_arrangements.specs.Arrangements.{Arrangement};
 ghost use Rattle.law_arrangements.specs.ArrangedLists.{met_first, met_step};
 ghost use Rattle.smv_problem.specs.Written.{written_demand};
 ghost use Rattle.smv_problem.specs.WellFormed.{OfCases, IsFit};
 ghost use Rattle.smv_cells.specs.Cells.{AreCellsMade};
 ghost use Rattle.smv_cells.specs.Seen.{IsSeen};
 ghost use Rattle.smv_outcomes.specs.Remembered.{AreKnown};
-ghost use Rattle.smv_encode.specs.Coded.{view_at, state_at};
+ghost use Rattle.smv_encode.specs.Coded.{AreStates, view_at, state_at};
 ghost use Rattle.smv_encode.specs.Encoded.{met_at as met_function, broken_at, IsKept, AreLiveCells, AreCellsOf, AreKnownOfCase};
 
 use crate::cells::{CaseKnown, Cells};
@@ -40,7 +40,7 @@ pub(crate) fn first_by<'a>(
     ensures keeps { Keeps store.old store.new }
     ensures live { IfOk result (λ r. IsLive store.new r) }
     ensures known { IfOk result (λ r. AreKnown IsLive table store.new problem.entry.now current.now known.new.entries.items) }
-    ensures means { IfOk result (λ r. OfCases problem.entry.now (λ c. (order : List ℕ) → IsSeen table store.old problem.entry.now current.now (view_at c order false) → (d : Demanded) → demand.now ≡ written_demand c.problem.world.classes d → IsFit c d → IsKept c d → table store.new r ≡ met_first c (arranged order) d)) }
+    ensures means { IfOk result (λ r. OfCases problem.entry.now (λ c. (o : Arrangement) → AreStates c o → IsSeen table store.old problem.entry.now current.now (view_at c o false) → (d : Demanded) → demand.now ≡ written_demand c.problem.world.classes d → IsFit c d → IsKept c d → table store.new r ≡ met_first c o d)) }
 {
     let _ = store.vars();
     let mut past = nothing_known(alloc);
@@ -65,7 +65,7 @@ pub(crate) fn step_by<'a>(
     ensures keeps { Keeps store.old store.new }
     ensures live { IfOk result (λ r. IsLive store.new r) }
     ensures known { IfOk result (λ r. AreKnownOfCase store.new problem.entry.now cells.now known.new) }
-    ensures means { IfOk result (λ r. OfCases problem.entry.now (λ c. (order : List ℕ) → AreCellsOf c order store.old problem.entry.now cells.now → (d : Demanded) → demand.now ≡ written_demand c.problem.world.classes d → IsFit c d → IsKept c d → table store.new r ≡ met_step c (arranged order) d)) }
+    ensures means { IfOk result (λ r. OfCases problem.entry.now (λ c. (o : Arrangement) → AreCellsOf c o store.old problem.entry.now cells.now → (d : Demanded) → demand.now ≡ written_demand c.problem.world.classes d → IsFit c d → IsKept c d → table store.new r ≡ met_step c o d)) }
 {
     let _ = store.vars();
     let old = cells.current.as_slice();
@@ -98,7 +98,7 @@ pub(crate) fn met_at<'a>(
     ensures keeps { Keeps store.old store.new }
     ensures live { IfOk result (λ r. IsLive store.new r) }
     ensures known { IfOk result (λ r. AreKnownOfCase store.new problem.entry.now cells.now known.new) }
-    ensures means { IfOk result (λ r. OfCases problem.entry.now (λ c. (order : List ℕ) → AreCellsOf c order store.old problem.entry.now cells.now → (d : Demanded) → demand.now ≡ written_demand c.problem.world.classes d → IsFit c d → IsKept c d → table store.new r ≡ met_function c order step d)) }
+    ensures means { IfOk result (λ r. OfCases problem.entry.now (λ c. (o : Arrangement) → AreCellsOf c o store.old problem.entry.now cells.now → (d : Demanded) → demand.now ≡ written_demand c.problem.world.classes d → IsFit c d → IsKept c d → table store.new r ≡ met_function c o step d)) }
 {
     if step {
         let r = step_by(alloc, problem, cells, known, demand, store)?;
@@ -124,7 +124,7 @@ fn guard_by<'a>(
     ensures keeps { Keeps store.old store.new }
     ensures live { IfOk result (λ r. IsLive store.new r) }
     ensures known { IfOk result (λ r. AreKnown IsLive table store.new problem.entry.now now.now known.new.entries.items) }
-    ensures means { IfOk result (λ r. OfCases problem.entry.now (λ c. (order : List ℕ) (next : Bool) → IsSeen table store.old problem.entry.now now.now (view_at c order next) → Has c.problem.guards guard.now → (a : ℕ → Bool) → table store.new r a ≡ may_hold_in c.problem (state_at c order next a) guard.now)) }
+    ensures means { IfOk result (λ r. OfCases problem.entry.now (λ c. (o : Arrangement) (next : Bool) → AreStates c o → IsSeen table store.old problem.entry.now now.now (view_at c o next) → Has c.problem.guards guard.now → (a : ℕ → Bool) → table store.new r a ≡ may_hold_in c.problem (state_at c o next a) guard.now)) }
 {
     let _ = store.vars();
     let r = may_hold(store, alloc, problem, now, known, guard);
@@ -146,7 +146,7 @@ fn guards_by<'a>(
     ensures keeps { Keeps store.old store.new }
     ensures live { IfOk result (λ r. IsLive store.new r) }
     ensures known { IfOk result (λ r. AreKnown IsLive table store.new problem.entry.now now.now known.new.entries.items) }
-    ensures means { IfOk result (λ r. OfCases problem.entry.now (λ c. (order : List ℕ) (next : Bool) → IsSeen table store.old problem.entry.now now.now (view_at c order next) → ((g : GuardData) → Has guards.now g → Has c.problem.guards g) → (a : ℕ → Bool) → table store.new r a ≡ list_all (may_hold_in c.problem (state_at c order next a)) guards.now)) }
+    ensures means { IfOk result (λ r. OfCases problem.entry.now (λ c. (o : Arrangement) (next : Bool) → AreStates c o → IsSeen table store.old problem.entry.now now.now (view_at c o next) → ((g : GuardData) → Has guards.now g → Has c.problem.guards g) → (a : ℕ → Bool) → table store.new r a ≡ list_all (may_hold_in c.problem (state_at c o next a)) guards.now)) }
 {
     let Some((guard, others)) = guards.split_first() else {
         return Ok(store.constant(true));
@@ -170,7 +170,7 @@ fn target_first<'a>(
     ensures keeps { Keeps store.old store.new }
     ensures live { IfOk result (λ r. IsLive store.new r) }
     ensures known { IfOk result (λ r. AreKnown IsLive table store.new problem.entry.now current.now known.new.entries.items) }
-    ensures means { IfOk result (λ r. OfCases problem.entry.now (λ c. (order : List ℕ) → IsSeen table store.old problem.entry.now current.now (view_at c order false) → (a : ℕ → Bool) → table store.new r a ≡ is_broken c.problem None (state_at c order false a) c.problem.target)) }
+    ensures means { IfOk result (λ r. OfCases problem.entry.now (λ c. (o : Arrangement) → AreStates c o → IsSeen table store.old problem.entry.now current.now (view_at c o false) → (a : ℕ → Bool) → table store.new r a ≡ is_broken c.problem None (state_at c o false a) c.problem.target)) }
 {
     let _ = store.vars();
     let mut past = nothing_known(alloc);
@@ -195,7 +195,7 @@ fn target_step<'a>(
     ensures keeps { Keeps store.old store.new }
     ensures live { IfOk result (λ r. IsLive store.new r) }
     ensures known { IfOk result (λ r. AreKnownOfCase store.new problem.entry.now cells.now known.new) }
-    ensures means { IfOk result (λ r. OfCases problem.entry.now (λ c. (order : List ℕ) → AreCellsOf c order store.old problem.entry.now cells.now → (a : ℕ → Bool) → table store.new r a ≡ is_broken c.problem (Some (state_at c order false a)) (state_at c order true a) c.problem.target)) }
+    ensures means { IfOk result (λ r. OfCases problem.entry.now (λ c. (o : Arrangement) → AreCellsOf c o store.old problem.entry.now cells.now → (a : ℕ → Bool) → table store.new r a ≡ is_broken c.problem (Some (state_at c o false a)) (state_at c o true a) c.problem.target)) }
 {
     let _ = store.vars();
     let old = cells.current.as_slice();
@@ -226,7 +226,7 @@ pub(crate) fn broken_first_by<'a>(
     ensures keeps { Keeps store.old store.new }
     ensures live { IfOk result (λ r. IsLive store.new r) }
     ensures known { IfOk result (λ r. AreKnown IsLive table store.new problem.entry.now current.now known.new.entries.items) }
-    ensures means { IfOk result (λ r. OfCases problem.entry.now (λ c. (order : List ℕ) → IsSeen table store.old problem.entry.now current.now (view_at c order false) → table store.new r ≡ broken_at c order false)) }
+    ensures means { IfOk result (λ r. OfCases problem.entry.now (λ c. (o : Arrangement) → AreStates c o → IsSeen table store.old problem.entry.now current.now (view_at c o false) → table store.new r ≡ broken_at c o false)) }
 {
     let guards = problem.guards.as_slice();
     let held = guards_by(alloc, problem, current, known, guards, store)?;
@@ -248,7 +248,7 @@ pub(crate) fn broken_step_by<'a>(
     ensures keeps { Keeps store.old store.new }
     ensures live { IfOk result (λ r. IsLive store.new r) }
     ensures known { IfOk result (λ r. AreKnownOfCase store.new problem.entry.now cells.now known.new) }
-    ensures means { IfOk result (λ r. OfCases problem.entry.now (λ c. (order : List ℕ) → AreCellsOf c order store.old problem.entry.now cells.now → table store.new r ≡ broken_at c order true)) }
+    ensures means { IfOk result (λ r. OfCases problem.entry.now (λ c. (o : Arrangement) → AreCellsOf c o store.old problem.entry.now cells.now → table store.new r ≡ broken_at c o true)) }
 {
     let guards = problem.guards.as_slice();
     let next = cells.next.as_slice();

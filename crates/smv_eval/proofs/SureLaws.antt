@@ -216,11 +216,11 @@ module _ (p : Problem) (w : World) (is : IsWorldOf p w) (kind : FlatKind) (f : P
       at true e = λ i. written i ∷ e i
       at false e = e
 
-list_is : (o : Option Family) → list_for o ≡ list_of (kind_in o)
+pub list_is : (o : Option Family) → list_for o ≡ list_of (kind_in o)
 list_is None = refl
 list_is (Some f) = kind_list f.value
 
-places_narrow : (c : readings.PosedCase) → IsWellFormed c → (o : Option Family) (p : Place) → Has (places_of_family c.problem.world c.problem.kept o) p → IsNarrow (Some p)
+pub places_narrow : (c : readings.PosedCase) → IsWellFormed c → (o : Option Family) (p : Place) → Has (places_of_family c.problem.world c.problem.kept o) p → IsNarrow (Some p)
 places_narrow c well None p h = elim h [ ]
 places_narrow c well (Some f) p h = type_narrow c well f.value p h
 

@@ -70,8 +70,8 @@ pub fn is_state(problem: &Problem, state: &AbsState) -> bool
     )
 }
 
-// The cell of an element that has this value.
-fn cell_of(
+/// The cell of an element that has this value.
+pub fn cell_of(
     alloc: Global,
     problem: &Problem,
     element: &Element,
@@ -93,8 +93,8 @@ fn cell_of(
     })
 }
 
-// Those of elements that have these values.
-fn cells_with(
+/// Those of elements that have these values.
+pub fn cells_with(
     alloc: Global,
     problem: &Problem,
     elements: &[Element],

@@ -36,7 +36,7 @@ fn list_over(over: Simple) -> Option<u16>
 }
 
 /// The enumeration of which the values of a family are, if they are of one.
-pub(crate) fn list_for(problem: &Problem, family: u16) -> Option<u16>
+pub fn list_for(problem: &Problem, family: u16) -> Option<u16>
     ensures { result ≡ spec.list_for (slice_get problem.entry.now.families family) }
 {
     match problem.families.as_slice().get(family as usize) {
@@ -87,8 +87,8 @@ fn constant_in(problem: &Problem, list: Option<u16>, number: usize) -> AbsValue
     }
 }
 
-// An outcome as it is written, where its constants are of this enumeration.
-fn value_at(problem: &Problem, list: Option<u16>, outcome: Option<Spot>) -> AbsValue
+/// An outcome as it is written, where its constants are of this enumeration.
+pub fn value_at(problem: &Problem, list: Option<u16>, outcome: Option<Spot>) -> AbsValue
     ensures { result ≡ spec.value_at problem.entry.now list outcome }
 {
     match outcome {

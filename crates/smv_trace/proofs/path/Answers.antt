@@ -41,10 +41,10 @@ read_states-requires-clause-within c = λ q h.
 pub read_states-requires-clause-have_bits : goal.read_states-requires-clause-have_bits
 read_states-requires-clause-have_bits c =
     subst (λ (states : List (Vec Bool)). All (HasBits (length c.as_slice.result.now)) states) (sym c.deref.ensures.value)
-    (have_bits c.args.problem.now c.requires.well_formed (lists_of c.args.store.now c.args.rel.now) c.args.order.now c.requires.lists (length c.as_slice.result.now) (ap (λ (ps : List ℕ). length ps) c.as_slice.ensures.value ∙ c.in_ok-places.ensures.count) c.in_ok-states.states.items c.in_ok-states.ensures.path.have_bits)
+    (have_bits c.args.problem.now c.requires.well_formed (lists_of c.args.store.now c.args.rel.now) c.args.order.now c.args.wires.now c.requires.lists (length c.as_slice.result.now) (ap (λ (ps : List ℕ). length ps) c.as_slice.ensures.value ∙ c.in_ok-places.ensures.count) c.in_ok-states.states.items c.in_ok-states.ensures.path.have_bits)
 
 pub returns-clause-shortest : goal.returns-clause-shortest
 returns-clause-shortest c =
-    read_path c.args.problem.now c.args.order.now c.requires.order (lists_of c.args.store.now c.args.rel.now) c.requires.lists _ c.args.depth (rings_count c.args.store.now (lists_of c.args.store.now c.args.rel.now) c.args.rings.now c.args.depth c.requires.rings) c.deref.result.now
+    read_path c.args.problem.now c.args.order.now c.args.wires.now (lists_of c.args.store.now c.args.rel.now) c.requires.lists _ c.args.depth (rings_count c.args.store.now (lists_of c.args.store.now c.args.rel.now) c.args.rings.now c.args.depth c.requires.rings) c.deref.result.now
     (subst (IsBitPath (lists_of c.args.store.now c.args.rel.now) _) (sym c.deref.ensures.value) c.in_ok-states.ensures.path) c.requires.none c.in_ok-path.path
     (λ d is well. c.in_ok-path.ensures d is well c.args.order.now (subst (ArePlaces c.args.order.now 0) (sym c.as_slice.ensures.value) c.in_ok-places.ensures.are))

@@ -12,8 +12,8 @@ read_at-requires-clause-within c =
 
 pub loop-state-preserved : goal.loop-state-preserved
 loop-state-preserved c =
-    read_more c.args.problem.now c.args.places.now c.args.states.now c.loop-state.state-index c.loop-state.path c.loop-state.invariant c.state-item.result c.loop-state-test.true c.state-item.is
+    read_more c.args.problem.now c.args.places.now c.args.wires.now c.args.states.now c.loop-state.state-index c.loop-state.path c.loop-state.invariant c.state-item.result c.loop-state-test.true c.state-item.is
     c.as_slice.result.now c.as_slice.ensures.value c.in_ok-read_at.field-0 c.push.new.self c.in_ok-push.ensures.ok c.in_ok-read_at.ensures
 
 pub returns : goal.returns
-returns c = read_whole c.args.problem.now c.args.places.now c.args.states.now c.loop-state.state-index c.loop-state.path c.loop-state.invariant c.loop-state-test.false
+returns c = read_whole c.args.problem.now c.args.places.now c.args.wires.now c.args.states.now c.loop-state.state-index c.loop-state.path c.loop-state.invariant c.loop-state-test.false

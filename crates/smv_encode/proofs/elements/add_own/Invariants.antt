@@ -1,9 +1,10 @@
-use Rattle.std.proofs.Common.{ℕ, List, [], ◌∷◌, map, take}
+use Rattle.std.proofs.Common.{List, [], ◌∷◌, map, take}
 use Rattle.law_obligations.specs.Obligations.{Demanded}
 use Rattle.law_obligations.specs.Cones.{AbsElement}
 use Rattle.law_reports.specs.CaseLists.{those_of}
 use Rattle.bdd_store.specs.Diagram.{AreLive, Keeps}
 use Rattle.smv_problem.specs.WellFormed.{OfCases}
+use Rattle.law_arrangements.specs.Arrangements.{Arrangement}
 use Rattle.smv_encode.specs.Encoded.{met_at, AreCellsOf, AreKnownOfCase}
 use Rattle.smv_encode.specs.Parts.{AreDemands, AreElements, AddsFunctions}
 use Rattle.smv_encode.proofs.elements.add_own.Given as goal
@@ -13,5 +14,5 @@ invariant-loop-demand l = record {
   keeps : Keeps l.initial.store l.store;
   out : AreLive l.store l.out.items;
   known : AreKnownOfCase l.store l.problem l.cells l.known;
-  adds : OfCases l.problem (λ c. (o : List ℕ) → AreCellsOf c o l.initial.store l.problem l.cells → (x : AbsElement) → AreElements c (x ∷ []) (l.element ∷ []) → (ds : List Demanded) → AreDemands c ds l.demands → AddsFunctions l.initial.store l.store l.initial.out.items l.out.items (map (met_at c o l.step) (those_of (take l.demand-index ds) x)));
+  adds : OfCases l.problem (λ c. (o : Arrangement) → AreCellsOf c o l.initial.store l.problem l.cells → (x : AbsElement) → AreElements c (x ∷ []) (l.element ∷ []) → (ds : List Demanded) → AreDemands c ds l.demands → AddsFunctions l.initial.store l.store l.initial.out.items l.out.items (map (met_at c o l.step) (those_of (take l.demand-index ds) x)));
 }

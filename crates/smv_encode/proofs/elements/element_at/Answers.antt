@@ -17,7 +17,7 @@ own_met-requires c = record {
 pub returns-clause-means : goal.returns-clause-means
 returns-clause-means c = λ d is well o are x hx bit placed.
     element_is d o c.args.step (record { element = x; bit = bit }) (table c.and.new.store c.in_ok-r.r) (table c.own_met.new.store c.in_ok-value.value) (table c.own_met.new.store c.in_ok-met.met) c.in_ok-r.ensures.table
-    (λ a. c.in_ok-met.ensures.keeps.tables c.in_ok-value.value c.in_ok-value.ensures.live a ∙ c.in_ok-value.ensures.value d is well x (sym (ap (λ (y : Element). y.family) (one_element d x c.args.element.now hx))) o bit placed a)
+    (λ a. c.in_ok-met.ensures.keeps.tables c.in_ok-value.value c.in_ok-value.ensures.live a ∙ c.in_ok-value.ensures.value d is well x (sym (ap (λ (y : Element). y.family) (one_element d x c.args.element.now hx))) o.order bit placed a)
     (c.in_ok-met.ensures.means d is well o (cells_on d o c.args.store.now c.value_at.new.store c.args.problem.now c.args.cells.now c.in_ok-value.ensures.keeps c.requires.cells are) x hx d.problem.now
     (demands_shown d d.problem.now c.args.problem.now.now c.as_slice-demands.result.now c.as_slice-demands.ensures (now_are c.args.problem.now d is well)))
 

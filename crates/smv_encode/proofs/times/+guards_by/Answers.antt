@@ -13,11 +13,11 @@ guards_by-requires t c =
     search (rules, live, c.in_ok-held.ensures.known)
 
 pub returns-clause-means : goal.returns-clause-means
-returns-clause-means t c d is well o next seen among a =
+returns-clause-means t c d is well o next states seen among a =
     let k = c.in-Some.ensures.cases in
     one_guard d (state_at d o next a) c.args.guards.now c.in-Some.others.now c.in-Some.guard.now _ _ _ k.0
-    (c.in_ok-all_held.ensures.keeps.tables c.in_ok-held.held c.in_ok-held.ensures.live a ∙ c.in_ok-held.ensures.means d is well o next seen (first_guard d c.args.guards.now c.in-Some.others.now c.in-Some.guard.now k.0 among) a)
-    (c.in_ok-all_held.ensures.means d is well o next (list_seen c.args.store.now c.guard_by.new.store c.args.problem.now c.args.now.now (view_at d o next) c.in_ok-held.ensures.keeps c.requires.live seen) (later_guard d c.args.guards.now c.in-Some.others.now c.in-Some.guard.now k.0 among) a)
+    (c.in_ok-all_held.ensures.keeps.tables c.in_ok-held.held c.in_ok-held.ensures.live a ∙ c.in_ok-held.ensures.means d is well o next states seen (first_guard d c.args.guards.now c.in-Some.others.now c.in-Some.guard.now k.0 among) a)
+    (c.in_ok-all_held.ensures.means d is well o next states (list_seen c.args.store.now c.guard_by.new.store c.args.problem.now c.args.now.now (view_at d o next) c.in_ok-held.ensures.keeps c.requires.live seen) (later_guard d c.args.guards.now c.in-Some.others.now c.in-Some.guard.now k.0 among) a)
     (c.in_ok-r.ensures.table a)
 
 pub returns-clause-known : goal.returns-clause-known

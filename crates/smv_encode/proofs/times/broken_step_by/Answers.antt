@@ -23,7 +23,7 @@ returns-clause-means c d is well o are =
     let guards = c.as_slice-guards.ensures ∙ guards_are c.args.problem.now d is in
     both_function (table c.target_step.new.store c.in_ok-held.held) (λ a. list_all (may_hold d.problem (state_at d o true a)) d.problem.guards) (table c.target_step.new.store c.in_ok-broken.broken) (table c.and.new.store c.in_ok-r.r)
     (λ a. c.in_ok-broken.ensures.keeps.tables c.in_ok-held.held c.in_ok-held.ensures.live a
-    ∙ c.in_ok-held.ensures.means d is well o true (subst (λ (cs : List (Cell Ref)). IsSeen table c.args.store.now c.args.problem.now cs (view_at d o true)) (sym c.as_slice-next.ensures.value) are.next) (has_all c.as_slice-guards.result.now d.problem.guards guards) a
+    ∙ c.in_ok-held.ensures.means d is well o true are.states (subst (λ (cs : List (Cell Ref)). IsSeen table c.args.store.now c.args.problem.now cs (view_at d o true)) (sym c.as_slice-next.ensures.value) are.next) (has_all c.as_slice-guards.result.now d.problem.guards guards) a
     ∙ ap (λ (gs : List Guard). list_all (may_hold d.problem (state_at d o true a)) gs) guards)
     c.in_ok-r.ensures.table _
     (c.in_ok-broken.ensures.means d is well o (cells_on d o c.args.store.now c.guards_by.new.store c.args.problem.now c.args.cells.now c.in_ok-held.ensures.keeps c.requires.live are))

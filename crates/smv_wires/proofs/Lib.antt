@@ -1,0 +1,9 @@
+pub mod Facts
+pub mod Seeing
+pub mod Readiness
+pub mod Mets
+pub mod Tests
+pub mod Values
+pub mod Added
+pub mod Behind
+pub mod Under
