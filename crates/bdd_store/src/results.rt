@@ -67,12 +67,12 @@ impl Known {
     }
 }
 
-/// How many places a table is to have: more where as many results were put as it has, and one look in four was of use.
+/// How many places a table is to have: more where as many results were put as it has, one look in four was of use, and there are twice as many chains of nodes.
 pub(crate) fn wanted(has: usize, puts: u64, hits: u64, chains: usize) -> usize {
     if has < FEW {
         return chains.min(FEW);
     }
-    if puts >= has as u64 && hits >= puts / 3 && has < MOST {
+    if puts >= has as u64 && hits >= puts / 3 && has < MOST && has <= chains / 2 {
         return 4 * has;
     }
     has

@@ -17,8 +17,12 @@ use bdd_store::{Ref, Store};
 use smv_cells::Cell;
 use smv_core::flat::Element;
 use smv_problem::Problem;
+use smv_targets::places_for;
 use smv_typed_spots::index_spots;
 use std::alloc::{AllocError, Global};
+
+// Each value is tried by itself, at both times: an element that has more than so many keeps its bits.
+const MOST_VALUES: usize = 64;
 
 /// The cell of the first of these elements, none of which has one yet, where its demands of now allow exactly one value at each assignment of the others: then it is determined by those that have
 /// cells, and its cell is what its demands allow.
@@ -41,6 +45,10 @@ pub(crate) fn wire_cell(
     };
     let ready = is_ready(alloc, problem, tried, element)?;
     if !ready {
+        return Ok(None);
+    }
+    let places = places_for(alloc, problem, element.family)?;
+    if places.len() > MOST_VALUES {
         return Ok(None);
     }
     let values = tested_values(alloc, problem, store, element, cells)?;
