@@ -1,0 +1,4 @@
+pub mod Names
+pub mod Alone
+pub mod Items
+pub mod Left
