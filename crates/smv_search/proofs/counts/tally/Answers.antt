@@ -1,13 +1,13 @@
-use Rattle.std.proofs.Common.{◌≡◌, ◌≤◌, ◌∙◌, ℕ, subst, arith}
+use Rattle.std.proofs.Common.{◌≡◌, ◌∙◌, arith}
 use Rattle.smv_search.specs.Keeping.{beads_of}
-use Rattle.smv_search.proofs.Keep.{beads_are, held_at, keeps_swept}
+use Rattle.smv_search.proofs.Keep.{beads_are, held_at, keeps_self, keeps_swept}
 use Rattle.smv_search.proofs.counts.tally.Goals as goal
 
-pub returns-then-held-nodes-clause-count : goal.returns-then-held-nodes-clause-count
-returns-then-held-nodes-clause-count c =
-    let most : beads_of c.args.store.now c.args.roots.now ≤ c.held.result =
-    subst (λ (n : ℕ). n ≤ c.held.result) (beads_are c.args.store.now c.args.roots.now) (c.held.ensures.most c.args.roots.now (held_at c.args.store.now c.args.roots.now c.requires.held)) in
-    omega arith
+pub count_front-requires : goal.count_front-requires
+count_front-requires c = record { live = held_at c.args.store.now c.args.roots.now c.requires.held }
+
+pub returns-then-not-is_due-clause-keeps : goal.returns-then-not-is_due-clause-keeps
+returns-then-not-is_due-clause-keeps c = keeps_self c.args.store.now c.args.roots.now c.requires.held
 
 pub sweep-requires : goal.sweep-requires
 sweep-requires c = held_at c.args.store.now c.args.roots.now c.requires.held
