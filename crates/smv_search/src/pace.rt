@@ -4,7 +4,7 @@ use bdd_store::Store;
 // A sweep may come where so many times as many nodes are held as the last one left, and so many more.
 const TIMES: usize = 3;
 
-const MORE: usize = 20_000;
+const MORE: usize = 60_000;
 
 // And where so many turns, one after another, took about as many calls as the one before.
 const LEVEL: u32 = 3;
@@ -61,7 +61,7 @@ impl Pace {
         let took = store.calls().saturating_sub(self.began);
         let is_more = took > self.took.saturating_add(self.took / 4);
         self.is_dear = self.is_dear || self.was_swept && is_more;
-        if self.is_dear || is_more || took < self.took - self.took / 8 {
+        if self.is_dear || is_more || took < self.took.saturating_sub(self.took / 8) {
             self.level = 0;
         } else {
             self.level = self.level.saturating_add(1);
