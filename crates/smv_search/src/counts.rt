@@ -107,6 +107,8 @@ fn tally(store: &mut Store, roots: &[Ref], pace: &mut Pace, nodes: u32) -> Resul
     if !pace.is_due(store, nodes) {
         return count_front(store, roots, nodes);
     }
+    // What is known is let go first: to forget it in the store would be to overwrite it all.
+    let _ = store.lend();
     store.sweep(roots);
     pace.swept(store);
     let count = store.held();
