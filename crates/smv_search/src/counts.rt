@@ -7,6 +7,7 @@ ghost use Rattle.smv_search.specs.Keeping.{AllHeld, KeepsRefs, beads_of, IsTally
 ghost use Rattle.smv_search.specs.Runs.{TakesIn};
 ghost use Rattle.law_events.specs.Events.{margin};
 
+use super::pace::Pace;
 use bdd_store::{Ref, Store};
 use std::alloc::{AllocError, AllocFailed};
 
@@ -77,6 +78,7 @@ fn count_front(store: &Store, front: &[Ref], nodes: u32) -> Result<(), Stop>
 pub fn append(
     store: &mut Store,
     live: &mut Vec<Ref>,
+    pace: &mut Pace,
     source: Ref,
     made: Ref,
     nodes: u32,
@@ -90,22 +92,25 @@ pub fn append(
 {
     live.push(source)?;
     live.push(made)?;
-    let answer = tally(store, live, nodes);
+    let answer = tally(store, live, pace, nodes);
     live.pop();
     live.pop();
     answer
 }
 
-// Counts the functions. Where the store holds more nodes than the budget, all others are given back.
-fn tally(store: &mut Store, roots: &[Ref], nodes: u32) -> Result<(), Stop>
+// Counts the functions. Where a sweep is due, all others are given back.
+fn tally(store: &mut Store, roots: &[Ref], pace: &mut Pace, nodes: u32) -> Result<(), Stop>
     requires held { AllHeld store.old roots.now }
     ensures keeps { KeepsRefs store.old store.new roots.now }
     ensures count { IsTally (beads_of store.old roots.now) nodes result }
 {
-    if store.held() <= nodes as usize {
-        return Ok(());
+    if !pace.is_due(store, nodes) {
+        return count_front(store, roots, nodes);
     }
+    // What is known is let go first: to forget it in the store would be to overwrite it all.
+    let _ = store.lend();
     store.sweep(roots);
+    pace.swept(store);
     let count = store.held();
     if count > nodes as usize {
         let told = count.min(most_told(nodes));

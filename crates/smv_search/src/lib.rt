@@ -19,10 +19,12 @@ use smv_rings::{Rel, plan};
 use std::alloc::{AllocError, Global};
 
 mod counts;
+mod pace;
 mod runs;
 mod turns;
 
 use counts::{Stop, take_in};
+use pace::Pace;
 use runs::{first, openers, run};
 use turns::{End, turns};
 
@@ -104,12 +106,15 @@ fn decide(
     ensures end { IsEnd store.new (lists_of store.old rel.now) (record { vars = store.old.vars; nodes = nodes; images = steps }) result }
     ensures rings { IsEndLive store.new (lists_of store.old rel.now) (refs_of rel.now) live.new.items result }
 {
-    let Some(ring) = begin(alloc, rel, store, live, nodes)? else {
+    let mut pace = Pace::new(store);
+    let Some(ring) = begin(alloc, rel, store, live, &mut pace, nodes)? else {
         return Ok(End::Reaches(0));
     };
     live.push(ring)?;
     let turn = plan(alloc, rel, store)?;
-    turns(alloc, rel, store, live, &turn, ring, nodes, steps)
+    turns(
+        alloc, rel, store, live, &mut pace, &turn, ring, nodes, steps,
+    )
 }
 
 // Ring 0, or none where a state at time 0 is broken.
@@ -118,6 +123,7 @@ fn begin(
     rel: &Rel,
     store: &mut Store,
     live: &mut Vec<Ref>,
+    pace: &mut Pace,
     nodes: u32,
 ) -> Result<Option<Ref>, Stop>
     requires rel { IsRel store.old rel.now }
@@ -129,7 +135,7 @@ fn begin(
     take_in(store, live, nodes)?;
     let ops = openers(alloc, rel)?;
     let start = first(rel, store);
-    run(alloc, store, live, &ops, start, nodes)
+    run(alloc, store, live, pace, &ops, start, nodes)
 }
 
 // The outcome. The rings stand behind the functions of the lists.

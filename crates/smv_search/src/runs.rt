@@ -11,6 +11,7 @@ ghost use Rattle.smv_search.specs.Runs.{Runs, first_of, behind_first, opening};
 ghost use Rattle.law_events.specs.Events.{margin};
 
 use super::counts::{Stop, append, most_told};
+use super::pace::Pace;
 use bdd_store::{Ref, Store};
 use smv_rings::{Op, Rel, apply_within};
 use std::alloc::{AllocError, Global};
@@ -20,6 +21,7 @@ pub fn run(
     alloc: Global,
     store: &mut Store,
     live: &mut Vec<Ref>,
+    pace: &mut Pace,
     ops: &[Op],
     start: Ref,
     nodes: u32,
@@ -34,7 +36,7 @@ pub fn run(
 {
     let mut p = start;
     for op in ops {
-        let Some(made) = step(alloc, store, live, p, *op, nodes)? else {
+        let Some(made) = step(alloc, store, live, pace, p, *op, nodes)? else {
             return Ok(None);
         };
         p = made;
@@ -47,6 +49,7 @@ fn step(
     alloc: Global,
     store: &mut Store,
     live: &mut Vec<Ref>,
+    pace: &mut Pace,
     p: Ref,
     op: Op,
     nodes: u32,
@@ -60,7 +63,7 @@ fn step(
     ensures runs { (k images : ℕ) → Runs store.new (record { vars = store.old.vars; nodes = nodes; images = images }) (map (table store.old) live.old.items) (table store.old p) (act_of store.old k op ∷ []) k result }
 {
     let made = make(alloc, store, p, op, nodes)?;
-    append(store, live, p, made, nodes)?;
+    append(store, live, pace, p, made, nodes)?;
     if let Op::Look(_) = op {
         if is_false(store, made) {
             return Ok(Some(p));

@@ -11,6 +11,7 @@ ghost use Rattle.smv_search.specs.Keeping.{AllHeld, KeepsRefs, beads_in, IsTally
 ghost use Rattle.smv_search.specs.Runs.{IsEnd, IsEndLive};
 
 use super::counts::{Stop, append, most_told};
+use super::pace::Pace;
 use super::runs::run;
 use bdd_ops::or_within;
 use bdd_store::{Ref, Store};
@@ -31,6 +32,7 @@ pub fn turns(
     rel: &Rel,
     store: &mut Store,
     live: &mut Vec<Ref>,
+    pace: &mut Pace,
     plan: &[Op],
     first: Ref,
     nodes: u32,
@@ -53,10 +55,11 @@ pub fn turns(
 {
     let mut last = first;
     for k in 0..steps {
-        let Some(image) = run(alloc, store, live, plan, last, nodes)? else {
+        let Some(image) = run(alloc, store, live, pace, plan, last, nodes)? else {
             return Ok(End::Reaches(k + 1));
         };
-        let next = close(alloc, store, live, image, last, nodes)?;
+        let next = close(alloc, store, live, pace, image, last, nodes)?;
+        pace.turned(store);
         let _ = store.vars();
         if next == last {
             return Ok(End::Closed(last));
@@ -72,6 +75,7 @@ fn close(
     alloc: Global,
     store: &mut Store,
     live: &mut Vec<Ref>,
+    pace: &mut Pace,
     image: Ref,
     last: Ref,
     nodes: u32,
@@ -86,7 +90,7 @@ fn close(
     ensures count { (look : Look) → IsTally (count store.old.vars (record { kept = map (table store.old) live.old.items; source = table store.old image ∷ []; made = disj (table store.old image) (table store.old last); look = look })) nodes result }
 {
     let next = unite(alloc, store, image, last, nodes)?;
-    append(store, live, image, next, nodes)?;
+    append(store, live, pace, image, next, nodes)?;
     Ok(next)
 }
 
