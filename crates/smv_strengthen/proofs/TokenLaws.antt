@@ -1,15 +1,15 @@
 -- The tokens of a claim's expression stand in the text.
-use Rattle.std.proofs.Common.{◌≡◌, ◌<◌, ◌+◌, ◌-◌, ◌==◌, ℕ, List, [], ◌∷◌, ◌++◌, length, take, drop, take_while, Bool, true, false, not, cond, if◌then◌else◌, Ok, refl, sym, ap, ◌∙◌, append_assoc, arith}
+use Rattle.std.proofs.Common.{◌≡◌, ◌-◌, ◌==◌, ℕ, List, [], ◌∷◌, length, take, drop, take_while, Bool, true, false, not, cond, if◌then◌else◌, Ok, refl, ap, ◌∙◌, arith}
 use Rattle.std.specs.List.{AllByRecursion}
-use Rattle.std.proofs.lemmas.List.{take-append-drop, take_all, length-take-le, length-drop}
+use Rattle.std.proofs.lemmas.List.{take_all, length-drop}
 use Rattle.std.proofs.lemmas.List.Sums.{take_while-cons}
 use Rattle.smv_core.specs.declared.token.Token.{Token}
 use Rattle.smv_core.specs.Signs.{semicolon, word_G}
 use Rattle.smv_core.specs.Notation.{Tokens, same_kind}
 use Rattle.smv_lex.specs.Lexing.{lexed}
-use Rattle.law_lexed_parts.proofs.Parted.{within-text, under-there, split-at}
 use Rattle.law_exchanged.specs.Claims.{from_first, body_tokens}
-use Rattle.smv_strengthen.specs.Fronts.{IsTokenAt}
+use Rattle.smv_token_ends.specs.Fronts.{IsTokenAt}
+use Rattle.smv_token_ends.proofs.Standing.{tokens-stand}
 
 -- behind those that fail the test comes the first that passes
 pub from-first-is : {X : Type 0} (test : X → Bool) (xs : List X) → drop (length (take_while (λ x. not (test x)) xs)) xs ≡ from_first test xs
@@ -24,22 +24,6 @@ from-first-is test (x ∷ xs) = ap (λ l. drop (length l) (x ∷ xs)) (take_whil
 -- what a slice from an index on holds
 pub rest-is : {X : Type 0} (n : ℕ) (xs : List X) → take (length xs - n) (drop n xs) ≡ drop n xs
 rest-is n xs = take_all (length xs - n) (drop n xs) (omega (arith, length-drop n xs))
-
--- ---- each token stands in the text
-
-module _ (text : List ℕ) (ts : Tokens) (e : lexed text ≡ Ok ts) where
-  here : (front rest : Tokens) (t : Token) → ts ≡ front ++ (t ∷ rest) → IsTokenAt text t
-  here front rest t s =
-      let is : lexed text ≡ Ok (front ++ (t ∷ rest)) = e ∙ ap Ok s in
-      let low : t.at < 0 + length text = under-there (0 + length text) front t rest (within-text 0 0 text (front ++ (t ∷ rest)) is) in
-      (split-at (take t.at text) (drop t.at text) front rest t (ap lexed (take-append-drop t.at text) ∙ is) (sym (length-take-le t.at text (omega (arith, low))))).1
-
-  each : (front rest : Tokens) → ts ≡ front ++ rest → AllByRecursion (IsTokenAt text) rest
-  each front [] s = tt
-  each front (t ∷ rest) s = (here front rest t s, each (front ++ (t ∷ [])) rest (s ∙ sym (append_assoc front (t ∷ []) rest)))
-
-  pub tokens-stand : AllByRecursion (IsTokenAt text) ts
-  tokens-stand = each [] ts refl
 
 module _ {X : Type 0} (P : X → Type 0) (test : X → Bool) where
   each-from : (xs : List X) → AllByRecursion P xs → AllByRecursion P (from_first test xs)

@@ -1,5 +1,5 @@
 // The bytes that are written in place of a claim's expression.
-ghost use Rattle.std.specs.Prelude.{◌≡◌, ℕ, ◌++◌, ◌∷◌, ◌&&◌, not, take, drop, false, IfOk, OnOk};
+ghost use Rattle.std.specs.Prelude.{◌≡◌, ℕ, ◌++◌, ◌∷◌, ◌&&◌, not, false, IfOk, OnOk};
 ghost use Rattle.smv_core.specs.Signs.{dot};
 ghost use Rattle.smv_core.specs.Notation.{Tokens, same_kind};
 ghost use Rattle.smv_lex.specs.Answers.{IfFault};
@@ -15,32 +15,8 @@ use smv_core::name::Name;
 use smv_core::signs::DOT;
 use smv_core::token::Token;
 use smv_core::{Refusal, Seq};
+use smv_token_ends::bytes::{before, behind, between};
 use std::alloc::{AllocError, Global};
-
-/// The bytes before an offset.
-#[tactic(auto, using(std::proofs::lemmas::List::take_min))]
-pub(crate) fn before(text: &[u8], at: usize) -> &[u8]
-    ensures { result.now ≡ take at text.now }
-{
-    let at = at.min(text.len());
-    text.split_at(at).0
-}
-
-/// The bytes from an offset on.
-#[tactic(auto, using(std::proofs::lemmas::List::drop_min))]
-pub(crate) fn behind(text: &[u8], at: usize) -> &[u8]
-    ensures { result.now ≡ drop at text.now }
-{
-    let at = at.min(text.len());
-    text.split_at(at).1
-}
-
-/// The bytes from an offset up to another.
-pub(crate) fn between(text: &[u8], from: usize, to: usize) -> &[u8]
-    ensures { result.now ≡ renaming.between text.now from to }
-{
-    before(behind(text, from), to.saturating_sub(from))
-}
 
 // Whether a token has the new name.
 fn is_renamed(token: &Token, var: &Name, is_behind_dot: bool) -> bool

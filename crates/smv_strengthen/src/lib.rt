@@ -1,7 +1,7 @@
 //! The strengthened text of an induction over an ordset: a claim that may assume itself, at the same time, for all smaller values of one of its parameters.
 //!
-//! For the prover by induction. `strengthen` writes the text of `law_strengthened_texts`, and `back` says where an offset of it stands in the text that was read. `claims` and `place` find the claim and its ordset, `tokens` and `ends` the bytes
-//! of its expression, `names` a new name, `bytes` writes.
+//! For the prover by induction. `strengthen` writes the text of `law_strengthened_texts`, and `back` says where an offset of it stands in the text that was read. `claims` and `place` find the claim and its ordset, `tokens` the tokens of its
+//! expression, `names` a new name, `bytes` writes.
 #![tactic(auto)]
 
 ghost use Rattle.std.specs.Prelude.{◌≡◌, ◌+◌, ◌^◌, ◌<◌, ◌≤◌, ℕ, length, IfOk, Err};
@@ -15,19 +15,19 @@ ghost use Rattle.smv_strengthen.specs.Answers.{shown, IsRefused, IsWithin, IsThe
 
 mod bytes;
 mod claims;
-mod ends;
 mod names;
 mod place;
 mod tokens;
 
 use bytes::{put, renamed, replacement};
-use ends::end_of_all;
 use law_strengthened_texts::laws::stronger_is_placed;
 use names::fresh_name;
 use place::{Place, place_of};
 use smv_core::tree::Text;
 use smv_core::{Fault, Name, Refusal, Seq};
 use smv_parse::{one_answer, parse};
+use smv_token_ends::bytes::between;
+use smv_token_ends::ends::end_of_all;
 use std::alloc::Global;
 use tokens::{begin_of, body_of};
 
@@ -97,7 +97,7 @@ fn of_place(alloc: Global, text: &[u8], var: &Name, place: &Place) -> Result<Str
     let from = begin_of(body);
     let to = end_of_all(text, body);
     let smaller = renamed(alloc, text, var, &fresh, from as usize, to, body)?;
-    let own = bytes::between(text, from as usize, to);
+    let own = between(text, from as usize, to);
     let new = replacement(alloc, var, &fresh, &place.set, &smaller, own)?;
     put(alloc, text, from, to, &new, place.at)
 }

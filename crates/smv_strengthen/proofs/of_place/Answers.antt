@@ -2,7 +2,7 @@ use Rattle.std.proofs.Common.{sym, ap, ◌∙◌, subst}
 use Rattle.std.specs.List.{AllByRecursion}
 use Rattle.smv_core.specs.Notation.{Tokens}
 use Rattle.law_exchanged.specs.Claims.{body_tokens}
-use Rattle.smv_strengthen.specs.Fronts.{IsTokenAt}
+use Rattle.smv_token_ends.specs.Fronts.{IsTokenAt}
 use Rattle.smv_strengthen.proofs.TokenLaws.{body-stands}
 use Rattle.smv_strengthen.proofs.of_place.Goals as goal
 

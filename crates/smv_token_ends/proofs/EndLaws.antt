@@ -12,7 +12,7 @@ use Rattle.smv_lex.specs.declared.front.Front.TheVariants.{Passed, Whole, Broken
 use Rattle.smv_lex.specs.Lexing.{is_blank, is_letter, is_digit, is_name_byte, is_in_line, begins, closing, word_front, number_front, sign_front, comment_front, front_of, word_kind, number_of}
 use Rattle.law_lexed_parts.specs.Parts.{size_of, end_of, end_of_all}
 use Rattle.law_lexed_parts.proofs.Seams.{found_by, line_of, comment_of, front-is}
-use Rattle.smv_strengthen.specs.Fronts.{IsToken}
+use Rattle.smv_token_ends.specs.Fronts.{IsToken}
 
 among : (table : List (TokenKind × List ℕ)) (bytes : List ℕ) → is_some (spelled_in table bytes) ≡ list_any (λ word. bytes_eq word bytes) (map (λ entry. entry.1) table)
 among [] bytes = refl

@@ -6,7 +6,7 @@ ghost use Rattle.smv_core.specs.Spellings.{signs, spelled_in};
 ghost use Rattle.smv_lex.specs.Lexing.{is_letter, is_digit, is_name_byte, front_of, sign_front};
 ghost use Rattle.law_lexed_parts.specs.Parts as parts;
 ghost use Rattle.law_lexed_parts.specs.Parts.{size_of};
-ghost use Rattle.smv_strengthen.specs.Fronts.{IsToken, IsTokenAt};
+ghost use Rattle.smv_token_ends.specs.Fronts.{IsToken, IsTokenAt};
 
 use crate::bytes::{before, behind};
 use smv_core::signs::SIGNS;
@@ -69,7 +69,8 @@ fn token_length(bytes: &[u8]) -> usize
     }
 }
 
-fn end_of(text: &[u8], token: &Token) -> usize
+/// Where a token ends.
+pub fn end_of(text: &[u8], token: &Token) -> usize
     requires token { IsTokenAt text.now token.now }
     ensures { result ≡ parts.end_of text.now token.now }
 {
@@ -78,7 +79,7 @@ fn end_of(text: &[u8], token: &Token) -> usize
 }
 
 /// Where the last of some tokens ends.
-pub(crate) fn end_of_all(text: &[u8], tokens: &[Token]) -> usize
+pub fn end_of_all(text: &[u8], tokens: &[Token]) -> usize
     requires tokens { AllByRecursion (IsTokenAt text.now) tokens.now }
     ensures { result ≡ parts.end_of_all text.now tokens.now }
 {

@@ -1,6 +1,6 @@
 use Rattle.std.proofs.Common.{sym, ◌∙◌}
-use Rattle.smv_strengthen.proofs.EndLaws.{no-first, word-first, number-first, sign-first}
-use Rattle.smv_strengthen.proofs.ends.token_length.Goals as goal
+use Rattle.smv_token_ends.proofs.EndLaws.{no-first, word-first, number-first, sign-first}
+use Rattle.smv_token_ends.proofs.ends.token_length.Goals as goal
 
 pub returns-in_default-clause-length : goal.returns-in_default-clause-length
 returns-in_default-clause-length c = no-first c.args.bytes.now c.in_default.len_below
