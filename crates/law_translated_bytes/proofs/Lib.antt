@@ -1,0 +1,4 @@
+pub mod Cuts
+pub mod Made
+pub mod Narrow
+pub mod Spelled
