@@ -1,5 +1,5 @@
 -- A text with other bytes in place of those of some tokens, or before some, and the kinds of its tokens.
-use Rattle.std.proofs.Common.{◌+◌, ◌-◌, ℕ, List, [], ◌∷◌, ◌++◌, drop, codes}
+use Rattle.std.proofs.Common.{ℕ, List, [], ◌∷◌, ◌++◌, drop, codes}
 use Rattle.std.specs.List.{AllByRecursion}
 use Rattle.smv_core.specs.declared.token.Token.{Token}
 use Rattle.smv_core.specs.declared.token.TokenKind.{TokenKind}
