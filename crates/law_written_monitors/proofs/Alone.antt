@@ -7,7 +7,7 @@ use Rattle.smv_lex.specs.Lexing as l
 use Rattle.law_translated_texts.specs.Parts.{Phrase, Now, Next, When, Weak}
 use Rattle.law_translated_texts.specs.Phrases.{Pieces, in_parens, whole, joined, implied, lasting, Stage, outset, under, behind, monitor, started, reached, reached_or, front_of, definitions, claim_of, Binders, names_in, type_of, within, assigned, defining, declared}
 use Rattle.law_written_formulas.specs.Laws.{IsWhole}
-use Rattle.law_written_monitors.specs.Monitored.{Monitored, declarations_of, definitions_of, written, PartsAre}
+use Rattle.law_written_monitors.specs.Monitored.{Monitored, declarations_of, definitions_of, PartsAre}
 use Rattle.law_written_monitors.specs.Laws.{ClaimsAreWhole, IsReadAlone, MonitorsAreWhole}
 
 -- ---- signs and words
