@@ -1,5 +1,5 @@
 -- The loops of the parser: where each ends, halts and goes on, with the formulas beside the trees.
-use Rattle.std.proofs.Common.{◌≡◌, ◌<◌, ℕ, Bool, true, false, List, [], ◌∷◌, ◌++◌, length, Ok, Err, refl, sym, ◌∙◌, ap, append_assoc, append-nil}
+use Rattle.std.proofs.Common.{◌≡◌, ◌<◌, ℕ, Bool, true, false, List, [], ◌∷◌, ◌++◌, length, Ok, Err, refl, sym, ◌∙◌, append_assoc, append-nil}
 use Rattle.smv_core.specs.declared.tree.Word.{Word}
 use Rattle.smv_core.specs.declared.tree.Item.{Item}
 use Rattle.smv_core.specs.declared.tree.Item.TheVariants as item
@@ -21,7 +21,7 @@ use Rattle.law_formula_grammar.proofs.Bodies.{items-law, item-lawful, body-lawfu
 use Rattle.law_formula_grammar.proofs.Texts.{top-lawful, top-begins}
 use Rattle.smv_parse_expressions.proofs.Loops.{not_begun}
 use Rattle.smv_parse_formulas.specs.declared.tree.Placed.{Placed}
-use Rattle.smv_parse_formulas.specs.Trees.{meanings, seen}
+use Rattle.smv_parse_formulas.specs.Trees.{meanings}
 use Rattle.smv_parse_formulas.specs.Pieces.{apart, read_all, gathered}
 
 -- the formulas of two lists
@@ -59,9 +59,9 @@ module _ {A : Type 0} (marks : List Mark) (p : Parser (With A)) (shrinks : Takes
       go (Err h) = refl
       go (Ok (xs, end)) = rw (append_assoc items (x.0 ∷ []) (trees xs)) (rw (append_assoc list x.1 (all_formulas xs)) refl)
 
-  go_on_seen : (items : List A) (list : List Placed) (ts : Tokens) (x : A × List Placed) (rest : Tokens) → starts (begins marks) ts ≡ true → p ts ≡ Ok (seen x, rest)
-      → gathered items (meanings list) (more ts) ≡ gathered (items ++ x.0 ∷ []) (meanings (list ++ x.1)) (more rest)
-  go_on_seen items list ts x rest e k = rw (meanings-join list x.1) (go_on items (meanings list) ts (seen x) rest e k)
+  go_on_seen : (items : List A) (list : List Placed) (ts : Tokens) (x : A) (added : List Placed) (rest : Tokens) → starts (begins marks) ts ≡ true → p ts ≡ Ok ((x, meanings added), rest)
+      → gathered items (meanings list) (more ts) ≡ gathered (items ++ x ∷ []) (meanings (list ++ added)) (more rest)
+  go_on_seen items list ts x added rest e k = rw (meanings-join list added) (go_on items (meanings list) ts (x, meanings added) rest e k)
 
 -- ---- items
 
@@ -80,9 +80,9 @@ items_end n items list ts b e q = end item_marks (read_item n (item_reader n)) (
 pub items_halt : (n : ℕ) (items : List Item) (list : Formulas) (ts : Tokens) (h : Halt) (b : Bool) → b ≡ starts (begins item_marks) ts → b ≡ true → read_item n (item_reader n) ts ≡ Err h → gathered items list (more_items n ts) ≡ Err h
 items_halt n items list ts h b e q k = halt item_marks (read_item n (item_reader n)) (items_take n) items list ts h (sym e ∙ q) k
 
-pub items_go_on : (n : ℕ) (items : List Item) (list : List Placed) (ts : Tokens) (x : Item × List Placed) (rest : Tokens) (b : Bool) → b ≡ starts (begins item_marks) ts → b ≡ true → read_item n (item_reader n) ts ≡ Ok (seen x, rest)
-    → gathered items (meanings list) (more_items n ts) ≡ gathered (items ++ x.0 ∷ []) (meanings (list ++ x.1)) (more_items n rest)
-items_go_on n items list ts x rest b e q k = go_on_seen item_marks (read_item n (item_reader n)) (items_take n) items list ts x rest (sym e ∙ q) k
+pub items_go_on : (n : ℕ) (items : List Item) (list : List Placed) (ts : Tokens) (x : Item) (added : List Placed) (rest : Tokens) (b : Bool) → b ≡ starts (begins item_marks) ts → b ≡ true → read_item n (item_reader n) ts ≡ Ok ((x, meanings added), rest)
+    → gathered items (meanings list) (more_items n ts) ≡ gathered (items ++ x ∷ []) (meanings (list ++ added)) (more_items n rest)
+items_go_on n items list ts x added rest b e q k = go_on_seen item_marks (read_item n (item_reader n)) (items_take n) items list ts x added rest (sym e ∙ q) k
 
 pub items_shrink : (n : ℕ) (ts : Tokens) (x : With Item) (rest : Tokens) → read_item n (item_reader n) ts ≡ Ok (x, rest) → length rest < length ts
 items_shrink n ts x rest k = items_take n ts x rest k
@@ -104,9 +104,9 @@ bodies_end n items list ts b e q = end body_marks (read_body n (item_reader n)) 
 pub bodies_halt : (n : ℕ) (items : List Item) (list : Formulas) (ts : Tokens) (h : Halt) (b : Bool) → b ≡ starts (begins body_marks) ts → b ≡ true → read_body n (item_reader n) ts ≡ Err h → gathered items list (more_bodies n ts) ≡ Err h
 bodies_halt n items list ts h b e q k = halt body_marks (read_body n (item_reader n)) (bodies_take n) items list ts h (sym e ∙ q) k
 
-pub bodies_go_on : (n : ℕ) (items : List Item) (list : List Placed) (ts : Tokens) (x : Item × List Placed) (rest : Tokens) (b : Bool) → b ≡ starts (begins body_marks) ts → b ≡ true → read_body n (item_reader n) ts ≡ Ok (seen x, rest)
-    → gathered items (meanings list) (more_bodies n ts) ≡ gathered (items ++ x.0 ∷ []) (meanings (list ++ x.1)) (more_bodies n rest)
-bodies_go_on n items list ts x rest b e q k = go_on_seen body_marks (read_body n (item_reader n)) (bodies_take n) items list ts x rest (sym e ∙ q) k
+pub bodies_go_on : (n : ℕ) (items : List Item) (list : List Placed) (ts : Tokens) (x : Item) (added : List Placed) (rest : Tokens) (b : Bool) → b ≡ starts (begins body_marks) ts → b ≡ true → read_body n (item_reader n) ts ≡ Ok ((x, meanings added), rest)
+    → gathered items (meanings list) (more_bodies n ts) ≡ gathered (items ++ x ∷ []) (meanings (list ++ added)) (more_bodies n rest)
+bodies_go_on n items list ts x added rest b e q k = go_on_seen body_marks (read_body n (item_reader n)) (bodies_take n) items list ts x added rest (sym e ∙ q) k
 
 pub bodies_shrink : (n : ℕ) (ts : Tokens) (x : With Item) (rest : Tokens) → read_body n (item_reader n) ts ≡ Ok (x, rest) → length rest < length ts
 bodies_shrink n ts x rest k = bodies_take n ts x rest k
@@ -128,9 +128,9 @@ tops_end n items list ts b e q = end top_marks (read_top n) (tops_take n) items 
 pub tops_halt : (n : ℕ) (items : List Top) (list : Formulas) (ts : Tokens) (h : Halt) (b : Bool) → b ≡ starts (begins top_marks) ts → b ≡ true → read_top n ts ≡ Err h → gathered items list (more_tops n ts) ≡ Err h
 tops_halt n items list ts h b e q k = halt top_marks (read_top n) (tops_take n) items list ts h (sym e ∙ q) k
 
-pub tops_go_on : (n : ℕ) (items : List Top) (list : List Placed) (ts : Tokens) (x : Top × List Placed) (rest : Tokens) (b : Bool) → b ≡ starts (begins top_marks) ts → b ≡ true → read_top n ts ≡ Ok (seen x, rest)
-    → gathered items (meanings list) (more_tops n ts) ≡ gathered (items ++ x.0 ∷ []) (meanings (list ++ x.1)) (more_tops n rest)
-tops_go_on n items list ts x rest b e q k = go_on_seen top_marks (read_top n) (tops_take n) items list ts x rest (sym e ∙ q) k
+pub tops_go_on : (n : ℕ) (items : List Top) (list : List Placed) (ts : Tokens) (x : Top) (added : List Placed) (rest : Tokens) (b : Bool) → b ≡ starts (begins top_marks) ts → b ≡ true → read_top n ts ≡ Ok ((x, meanings added), rest)
+    → gathered items (meanings list) (more_tops n ts) ≡ gathered (items ++ x ∷ []) (meanings (list ++ added)) (more_tops n rest)
+tops_go_on n items list ts x added rest b e q k = go_on_seen top_marks (read_top n) (tops_take n) items list ts x added rest (sym e ∙ q) k
 
 pub tops_shrink : (n : ℕ) (ts : Tokens) (x : With Top) (rest : Tokens) → read_top n ts ≡ Ok (x, rest) → length rest < length ts
 tops_shrink n ts x rest k = tops_take n ts x rest k

@@ -29,7 +29,7 @@ fn put_before(step: Step, formula: Formula) -> Result<Formula, Stop>
 
 /// 'X' '(' Formula ')'
 #[cycle(formulas)]
-#[tactic(auto, using(law_grammar::proofs::Steps::open_then, crate::proofs::Levels::next_formula), unfolding(law_formula_grammar::specs::Readers::read_next))]
+#[tactic(auto, using(law_grammar::proofs::Steps::open_then, crate::proofs::Levels::next_formula, crate::proofs::Alone::later_meant), unfolding(law_formula_grammar::specs::Readers::read_next))]
 fn later(alloc: Global, levels: u8, tokens: &[Token]) -> Result<(Formula, &[Token]), Stop>
     ensures found { IfOk result (λ found. read_next levels (formula_reader levels) tokens.now ≡ Ok (meant found.0, found.1.now)) }
     ensures stop { IfErr result (λ stop. StopsAs stop (read_next levels (formula_reader levels) tokens.now)) }
@@ -43,7 +43,7 @@ fn later(alloc: Global, levels: u8, tokens: &[Token]) -> Result<(Formula, &[Toke
 
 /// 'if' '(' Expr ')' Formula
 #[cycle(formulas)]
-#[tactic(auto, using(law_grammar::proofs::Steps::open_then, law_grammar::proofs::Steps::next_condition, crate::proofs::Levels::next_formula), unfolding(law_formula_grammar::specs::Readers::read_when))]
+#[tactic(auto, using(law_grammar::proofs::Steps::open_then, law_grammar::proofs::Steps::next_condition, crate::proofs::Levels::next_formula, crate::proofs::Alone::under_meant), unfolding(law_formula_grammar::specs::Readers::read_when))]
 fn under(alloc: Global, levels: u8, tokens: &[Token]) -> Result<(Formula, &[Token]), Stop>
     ensures found { IfOk result (λ found. read_when levels (formula_reader levels) tokens.now ≡ Ok (meant found.0, found.1.now)) }
     ensures stop { IfErr result (λ stop. StopsAs stop (read_when levels (formula_reader levels) tokens.now)) }
