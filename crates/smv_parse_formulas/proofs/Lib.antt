@@ -1,0 +1,6 @@
+mod Levels
+mod Alone
+mod Without
+mod Marked
+mod Loops
+pub mod ByLaws

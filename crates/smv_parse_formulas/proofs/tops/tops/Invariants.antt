@@ -1,0 +1,13 @@
+use Rattle.std.proofs.Common.{◌≡◌, length}
+use Rattle.law_grammar.specs.Items.{top_marks}
+use Rattle.law_formula_grammar.specs.Readers.{read_top}
+use Rattle.smv_parse_formulas.specs.Trees.{meanings}
+use Rattle.smv_parse_formulas.specs.Pieces.{read_all, gathered}
+use Rattle.smv_parse_formulas.proofs.Loops.{more_tops}
+use Rattle.smv_parse_formulas.proofs.tops.tops.Given as goal
+
+abbrev pub invariant-loop-alloc : goal.invariant-loop-alloc
+invariant-loop-alloc l = read_all top_marks (read_top l.levels) l.tokens ≡ gathered l.items.items (meanings l.formulas) (more_tops l.levels l.rest)
+
+abbrev pub decreases-loop-alloc : goal.decreases-loop-alloc
+decreases-loop-alloc l = length l.rest
