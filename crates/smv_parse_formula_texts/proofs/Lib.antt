@@ -1,3 +1,0 @@
-mod Once
-pub mod Answers
-mod Only
