@@ -1,0 +1,3 @@
+mod DefinedLaws
+pub mod StageLaws
+mod TypeLaws

@@ -1,0 +1,4 @@
+pub mod Extents
+pub mod Seen
+pub mod Stages
+pub mod Defined
