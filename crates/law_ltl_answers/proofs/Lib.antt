@@ -1,0 +1,9 @@
+pub mod Tokens
+pub mod Few
+pub mod Monitors
+pub mod Binders
+pub mod Sound
+pub mod Refusals
+pub mod Open
+pub mod Reports
+pub mod One
