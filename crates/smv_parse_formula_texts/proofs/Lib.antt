@@ -1,0 +1,3 @@
+mod Once
+pub mod Answers
+mod Only
