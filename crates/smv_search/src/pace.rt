@@ -11,7 +11,7 @@ const LEVEL: u32 = 3;
 
 /// What the last sweep left and what the last turns took, by which the next sweep is timed. Nothing that is answered depends on it.
 #[derive(Drop)]
-pub struct Pace {
+pub(crate) struct Pace {
     // How many nodes the last sweep left.
     kept: usize,
     // How many calls there were when the turn began, and how many the last turn took.
@@ -27,7 +27,7 @@ pub struct Pace {
 
 impl Pace {
     /// Nothing was swept yet, and no turn was made.
-    pub fn new(store: &Store) -> Pace {
+    pub(crate) fn new(store: &Store) -> Pace {
         Pace {
             kept: store.held(),
             began: store.calls(),
@@ -39,7 +39,7 @@ impl Pace {
     }
 
     /// A sweep is due: more nodes than the budget are held, or many more than the last sweep left while turn after turn takes about as many calls.
-    pub fn is_due(&self, store: &Store, nodes: u32) -> bool {
+    pub(crate) fn is_due(&self, store: &Store, nodes: u32) -> bool {
         let held = store.held();
         held > nodes as usize || self.level >= LEVEL && self.is_grown(held)
     }
@@ -51,13 +51,13 @@ impl Pace {
     }
 
     /// The store was swept.
-    pub fn swept(&mut self, store: &Store) {
+    pub(crate) fn swept(&mut self, store: &Store) {
         self.kept = store.held();
         self.was_swept = self.level >= LEVEL;
     }
 
     /// A turn was made.
-    pub fn turned(&mut self, store: &Store) {
+    pub(crate) fn turned(&mut self, store: &Store) {
         let took = store.calls().saturating_sub(self.began);
         let is_more = took > self.took.saturating_add(self.took / 4);
         self.is_dear = self.is_dear || self.was_swept && is_more;
