@@ -1,0 +1,9 @@
+mod AnswerLaws
+mod TextLaws
+mod ChangeLaws
+mod EditLaws
+mod NameLaws
+mod PlanLaws
+mod TokenLaws
+mod WritingLaws
+mod PhraseLaws

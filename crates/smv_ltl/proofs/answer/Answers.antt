@@ -1,0 +1,19 @@
+use Rattle.std.proofs.Common.{sym, subst, arith}
+use Rattle.smv_core.specs.Notation.{Tokens}
+use Rattle.law_translated_texts.specs.Answers.{IsRefused, too_long}
+use Rattle.smv_parse_formula_texts.specs.Spelling.{SpellsText, HasFault}
+use Rattle.smv_parse_formulas.specs.Trees.{shown}
+use Rattle.smv_ltl.proofs.WritingLaws.{handed-on}
+use Rattle.smv_ltl.proofs.TextLaws.{faults-are}
+use Rattle.smv_ltl.proofs.answer.Goals as goal
+
+pub returns-in_err-read-clause-fault : goal.returns-in_err-read-clause-fault
+returns-in_err-read-clause-fault c =
+    let text = c.args.text.now in
+    handed-on _ (λ f. HasFault text f.number f.at) (λ f. IsRefused text f.number f.at) (λ f h. faults-are text (omega arith) f.number f.at h) c.in_err-read.ensures.fault
+
+pub of_tree-requires : goal.of_tree-requires
+of_tree-requires c = record {
+  within = omega arith;
+  tree = subst (λ (ts : Tokens). SpellsText c.args.text.now ts (shown c.in_ok-read.read.tree)) (sym c.as_slice.ensures) c.in_ok-read.ensures.text;
+}
