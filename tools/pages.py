@@ -17,7 +17,7 @@ It ends with status 1 where something differs. The pages also run make, sed, seq
     ```marked         texts of one line, each with a line below it that has `^ fault N` under the place, and perhaps more words: what `prove` answers.
                       Before it `^ first` may stand under the other place, which `smv_look explain` tells. They stand in no table of tests of the prover.
 
-Each examples/NAME.smv has an examples/NAME.answer beside it: exactly what `deodarwrench prove < examples/NAME.smv` writes.
+Each examples/NAME.smv has an examples/NAME.answer beside it: exactly what `deodarwrench prove < examples/NAME.smv` writes, or `ltl` where a claim is a formula over several times. `smv_look` reads no such text.
 The exit status of an answer is the one that README.md states for it, and for `smv_look` docs/LOOK.md; no command's block repeats it. A command with `sh` or `make` in it ends with 0 where all is true.
 In the tables a text stands in one line and without its comments, unless it has a fault or `smv_look` tells places in it: a test costs by its bytes.
 """
@@ -69,8 +69,10 @@ LOOK = re.compile(r"smv_look ([^<|]+?) < (\S+)")
 NEEDS_LOOK = re.compile(r"\btools/sets\b|\bsets\.proof\b")
 # A command of which only the first lines are shown.
 HEAD = re.compile(r"\| head -n \d+$")
-# Words of the commands on documents, on units at given sizes and by induction, which have tests of their own.
-APART = re.compile(r"(?:proof|check|resume|confirm|induct)\b")
+# Words of the commands on documents, on units at given sizes, by induction and over several times, which have tests of their own.
+APART = re.compile(r"(?:proof|check|resume|confirm|induct|ltl)\b")
+# How a claim over several times begins.
+FORMULA = re.compile(r"\bassert G (?:if|X|W)\b")
 # What that program answers where a unit has no case of the number that is asked for.
 NO_CASE = re.compile(r"\S+: cases \d+\n")
 
@@ -167,11 +169,16 @@ def read_page(page):
     return files, commands
 
 
+def deciding(text):
+    """Returns the word of the command that decides a text of the examples."""
+    return "ltl" if FORMULA.search(bare(text)) else "prove"
+
+
 def example_commands():
     """Returns the commands on the examples with the answers that stand beside them."""
     commands = []
     for text in sorted((TOP / "examples").glob("*.smv")):
-        commands.append((f"deodarwrench prove < examples/{text.name}", text.with_suffix(".answer").read_text()))
+        commands.append((f"deodarwrench {deciding(text.read_text())} < examples/{text.name}", text.with_suffix(".answer").read_text()))
     return commands
 
 
@@ -223,6 +230,8 @@ def run_looks(look):
             wrong.append(f"explain of\n{text}")
     for example in sorted((TOP / "examples").glob("*.smv")):
         text = example.read_text()
+        if deciding(text) != "prove":
+            continue
         lines, units = ran(["list"], text)
         wrong += [f"list of {example.name}"] if units else []
         for line in lines.splitlines():
@@ -274,7 +283,7 @@ def write_answers(program):
     """Writes the answer beside each example."""
     for text in sorted((TOP / "examples").glob("*.smv")):
         with open(text, "rb") as source, open(text.with_suffix(".answer"), "wb") as sink:
-            subprocess.run([Path(program).resolve(), "prove"], stdin=source, stdout=sink)
+            subprocess.run([Path(program).resolve(), deciding(text.read_text())], stdin=source, stdout=sink)
 
 
 def quoted(text):

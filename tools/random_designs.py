@@ -1,11 +1,12 @@
 #!/usr/bin/env python3
 """Random designs, decided by the program under several settings: those of three bits by brute force too, wider ones by the settings alone.
 
-    tools/random_designs.py PROGRAM [--seed N] [--count N] [--words WORDS ..] [--wide]
+    tools/random_designs.py PROGRAM [--seed N] [--count N] [--words WORDS ..] [--wide | --formulas]
 
 Each design of three bits has boolean signals a, b and c, each with a value of now, or with `init` and `next` (some under an `if`, some without one), right sides with sets and
 conditionals, and one claim. All eight states are gone through from the definitions of the language alone; the verdict and the length of a shortest path have to be
 those that PROGRAM writes, under each of the WORDS that are given (`--words "--bits declared" "--bits near --nodes 40"`; none where there are none).
+With --formulas the claim of each design of three bits is a formula over several times, which `ltl` decides; by brute force what it asks of later times is carried along each run, state by state, with no monitors.
 With --wide designs have booleans, numbers, arrays and a scalarset, and two claims; what PROGRAM writes under each of the words has to be the same for each claim, verdicts and lengths.
 A claim that is unknown under some words is compared under the others alone. Designs that the program refuses are left out. It ends with status 1 where an answer differs.
 """
@@ -91,8 +92,31 @@ def right_side(names):
     return text, lambda s: {value(s)}
 
 
-def design():
-    """Returns a text, the test of a first state, that of a step, and that of the claim."""
+def formula(depth):
+    """Returns a formula over several times as text, and the function from a state to what it asks of the next one: formulas' functions, or None where it is broken in this state."""
+    kind = random.random()
+    if depth == 0 or kind < 0.2:
+        text = expression(2, NAMES)
+        value = value_of(text)
+        return text, lambda s: [] if value(s) else None
+    if kind < 0.5:
+        text, asks = formula(depth - 1)
+        return f"X ({text})", lambda s: [asks]
+    if kind < 0.8:
+        condition, (text, asks) = expression(2, NAMES), formula(depth - 1)
+        holds = value_of(condition)
+        return f"if ({condition}) {text}", lambda s: asks(s) if holds(s) else []
+    first, second = expression(2, NAMES), expression(1, NAMES)
+    holds, ends = value_of(first), value_of(second)
+
+    def unless(s):
+        return [] if ends(s) else [unless] if holds(s) else None
+
+    return f"W ({first}, {second})", unless
+
+
+def design(formulas=False):
+    """Returns a text, the test of a first state, that of a step, and that of the claim; or what its formula asks."""
     text = "module main() { " + " ".join(f"{name} : boolean;" for name in NAMES)
     now, first, later = {}, {}, {}
     order = random.sample(NAMES, len(NAMES))
@@ -110,8 +134,12 @@ def design():
                 condition = expression(1, NAMES) if random.random() < 0.3 else "1"
                 later[name] = value_of(condition), gives
                 text += f" if ({condition}) next({name}) := {side};"
-    claim = expression(3, NAMES)
-    text += f" p : assert G ({claim}); }}"
+    if formulas:
+        claim, asks = formula(4)
+        text += f" p : assert G {claim}; }}"
+    else:
+        claim = expression(3, NAMES)
+        text += f" p : assert G ({claim}); }}"
 
     def fits(s):
         return all(s[name] in gives(s) for name, gives in now.items())
@@ -123,7 +151,7 @@ def design():
         # Where no assignment is made to a signal with a `next`, it keeps its value.
         return fits(t) and all(t[name] in gives(s) if holds(s) else t[name] == s[name] for name, (holds, gives) in later.items())
 
-    return text, begins, follows, value_of(claim)
+    return text, begins, follows, asks if formulas else value_of(claim)
 
 
 def by_brute_force(begins, follows, claim):
@@ -135,6 +163,23 @@ def by_brute_force(begins, follows, claim):
         seen += ring
         ring = [t for t in states if t not in seen and any(follows(s, t) for s in ring)]
         time += 1
+    return "true"
+
+
+def along_runs(begins, follows, asks):
+    """The verdict of a formula that holds at each time: states are gone through with what was asked of them before."""
+    states = [dict(zip(NAMES, bits)) for bits in itertools.product((0, 1), repeat=len(NAMES))]
+    seen, ring, time = set(), {(place, frozenset()) for place, s in enumerate(states) if begins(s)}, 0
+    while ring:
+        later = set()
+        for place, due in ring:
+            more = [one(states[place]) for one in [*due, asks]]
+            if None in more:
+                return f"false at {time}"
+            asked = frozenset(one for some in more for one in some)
+            later |= {(other, asked) for other, t in enumerate(states) if follows(states[place], t)}
+        seen |= ring
+        ring, time = later - seen, time + 1
     return "true"
 
 
@@ -207,9 +252,9 @@ def wide_design():
     return text + f"  p : assert G ({bit_value(3, names)});\n  q : assert G ({bit_value(3, names)});\n}}\n"
 
 
-def verdicts(program, words, text):
+def verdicts(program, command, words, text):
     """The verdict of each unit that a run tells, or none where the text is refused."""
-    run = subprocess.run([program, "prove", *words.split()], input=text.encode(), capture_output=True)
+    run = subprocess.run([program, command, *words.split()], input=text.encode(), capture_output=True)
     if run.returncode == 3:
         return None
     if run.returncode not in (0, 1, 2):
@@ -232,17 +277,20 @@ def main():
     words.add_argument("--count", type=int, default=500)
     words.add_argument("--words", nargs="+", default=[""])
     words.add_argument("--wide", action="store_true")
+    words.add_argument("--formulas", action="store_true")
     asked = words.parse_args()
     random.seed(asked.seed)
     compared, told = 0, [0] * len(asked.words)
     for _ in range(asked.count):
-        text, *tests = (wide_design(),) if asked.wide else design()
-        answers = [(setting, verdicts(asked.program, setting, text)) for setting in asked.words]
+        text, *tests = (wide_design(),) if asked.wide else design(asked.formulas)
+        command = "ltl" if asked.formulas else "prove"
+        answers = [(setting, verdicts(asked.program, command, setting, text)) for setting in asked.words]
         if answers[0][1] is None:
             continue
         compared += 1
         told = [count + sum(verdict != "unknown" for verdict in found.values()) for count, (_, found) in zip(told, answers)]
-        compare(text, answers if asked.wide else [*answers, ("brute force", {"p": by_brute_force(*tests)})])
+        force = along_runs if asked.formulas else by_brute_force
+        compare(text, answers if asked.wide else [*answers, ("brute force", {"p": force(*tests)})])
     counts = ", ".join(f"{count} claims decided" + (f" under '{setting}'" if setting else "") for setting, count in zip(asked.words, told))
     print(f"{compared} designs compared, {asked.count - compared} refused; {counts}")
 

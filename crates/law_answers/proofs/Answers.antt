@@ -11,7 +11,7 @@ use Rattle.law_reports.specs.Reports.{AllTrueUnits, told_of}
 use Rattle.law_reports.specs.Verdicts.{AreOneEach}
 use Rattle.smv_parse.specs.Laws.{IsNotBoth, IsOneFault}
 use Rattle.smv_command.specs.declared.commands.Command.{Command}
-use Rattle.smv_command.specs.declared.commands.Command.TheVariants.{Prove, Only, Print, Generated, Proof, Check, Resume, Confirm, Induct}
+use Rattle.smv_command.specs.declared.commands.Command.TheVariants.{Prove, Only, Print, Generated, Proof, Check, Resume, Confirm, Induct, Ltl}
 use Rattle.smv_command.specs.declared.exit.Status.{Status}
 use Rattle.smv_command.specs.declared.exit.Status.TheVariants as status
 use Rattle.law_valid_texts.specs.Plans.{IsTree}
@@ -24,12 +24,14 @@ use Rattle.law_document_answers.specs.Laws.{OneDocumentStatus}
 use Rattle.law_document_answers.specs.Dues.{IsDocumentDue, documented, open_report, refused_text, too_long_to_check, judged, refused_design, too_long_to_resume, not_old, refused_new, resumed, open_resumed, status_by}
 use Rattle.law_document_answers.proofs.Statuses.{true_units}
 use Rattle.law_induct_answers.specs.Laws.{OneInductStatus}
+use Rattle.law_ltl_answers.specs.Laws.{OneLtlStatus}
+use Rattle.law_ltl_answers.proofs.Open.{status_alike}
 use Rattle.law_induct_answers.proofs.Statuses.{of_statuses}
+use Rattle.law_answers.proofs.Statuses.{of_ltl_statuses}
 use Rattle.law_answers.specs.Confirmations.{confirmed_status}
 use Rattle.law_answers.specs.Laws.{is_open}
-use Rattle.law_answers.proofs.Open.{status_alike}
 use Rattle.law_answers.proofs.Confirmed.{not_confirmed, same_status_of, told_known, told_once}
-use Rattle.law_answers.specs.Dues.{IsDue, IsDueTo, IsFault, IsReportFor, bits_of, confirmed, decided, default_bits, default_nodes, default_steps, faulty, is_false, is_of_own, is_unknown, malformed, of_documents, of_induction, of_unit, printed, proved_by, refused, status_of, text_for, too_long, unnamed}
+use Rattle.law_answers.specs.Dues.{IsDue, IsDueTo, IsFault, IsReportFor, bits_of, confirmed, decided, default_bits, default_nodes, default_steps, faulty, is_false, is_of_own, is_unknown, malformed, of_documents, of_formulas, of_induction, of_unit, printed, proved_by, refused, status_of, text_for, too_long, unnamed}
 
 -- ---- all is proved
 
@@ -60,6 +62,7 @@ valid_text Check text report is = absurd is
 valid_text (Resume budgets) text report is = absurd is
 valid_text (Confirm name sizes bits budgets) text report is = absurd is
 valid_text (Induct name var budgets) text report is = absurd is
+valid_text (Ltl bits budgets) text report is = absurd is
 
 -- what is due of documents is due to a command on documents
 pub of_ones : (command : Command) (text : List ℕ) (due : Status) (answer : List ℕ) → IsDocumentDue command text due answer → is_of_own command ≡ true
@@ -72,6 +75,7 @@ of_ones Print text due answer is = elim is [ ]
 of_ones (Generated copies) text due answer is = elim is [ ]
 of_ones (Confirm name sizes bits budgets) text due answer is = elim is [ ]
 of_ones (Induct name var budgets) text due answer is = refl
+of_ones (Ltl bits budgets) text due answer is = refl
 
 -- and no command on documents asks for a report
 pub of_others : (command : Command) (text : List ℕ) (report : Report) → IsReportFor command text report → is_of_own command ≡ true → ⊥
@@ -84,6 +88,7 @@ of_others Check text report is e = is
 of_others (Resume budgets) text report is e = is
 of_others (Confirm name sizes bits budgets) text report is e = is
 of_others (Induct name var budgets) text report is e = is
+of_others (Ltl bits budgets) text report is e = is
 
 module _ (not_both : IsNotBoth) (one_fault : IsOneFault) (one_tree : OneTree) (either : UnitsAreOrAreNot) where
   pub not_faulty : (command : Command) (text : List ℕ) (report : Report) (number at : ℕ) → IsReportFor command text report → IsFault command text number at → ⊥
@@ -109,7 +114,7 @@ module _ (not_both : IsNotBoth) (one_fault : IsOneFault) (one_tree : OneTree) (e
   not_printed text tree _ _ is (malformed number at within fault) = not_both text tree number at is.spelled fault
   not_printed text tree _ _ is (faulty other fault deciding is_tree found) = true≢false (sym deciding)
 
-  module _ (one_report : OneReport) (one_unit : OneUnitReport) (one_document : OneDocumentStatus) (one_induct : OneInductStatus) where
+  module _ (one_report : OneReport) (one_unit : OneUnitReport) (one_document : OneDocumentStatus) (one_induct : OneInductStatus) (one_ltl : OneLtlStatus) where
     told_alike : (command : Command) (text : List ℕ) (report other : Report) → IsReportFor command text report → IsReportFor command text other → AreOneEach (bits_of command) (told_of report.units) (told_of other.units)
     told_alike (Prove bits budgets) text report other is is_other = one_report text bits budgets.nodes budgets.steps report other is is_other
     told_alike (Only name bits budgets) text report other is is_other = one_unit text name bits budgets.nodes budgets.steps report other is is_other
@@ -120,6 +125,7 @@ module _ (not_both : IsNotBoth) (one_fault : IsOneFault) (one_tree : OneTree) (e
     told_alike (Resume budgets) text report other is is_other = absurd is
     told_alike (Confirm name sizes bits budgets) text report other is is_other = absurd is
     told_alike (Induct name var budgets) text report other is is_other = absurd is
+    told_alike (Ltl bits budgets) text report other is is_other = absurd is
 
     pub one_due : (command : Command) (text : List ℕ) (due other : Status) (answer another : List ℕ) → IsDue command text due answer → IsDue command text other another → is_open (bits_of command) due ≡ false → is_open (bits_of command) other ≡ false → due ≡ other
     one_due command text _ _ _ _ (decided report is) (decided another is_another) p q = status_alike (bits_of command) (proved_by command) report another (told_alike command text report another is is_another) p q
@@ -153,6 +159,13 @@ module _ (not_both : IsNotBoth) (one_fault : IsOneFault) (one_tree : OneTree) (e
     one_due _ text _ _ _ _ (of_induction name var budgets is) (refused number at not fault) p q = absurd (true≢false not)
     one_due _ text _ _ _ _ (of_induction name var budgets is) (of_documents is_other) p q = elim is_other [ ]
     one_due _ text due other answer another (of_induction name var budgets is) (of_induction _ _ _ is_other) p q = one_induct status.Inducted name var budgets text due other answer another is is_other
+    one_due _ text _ _ _ _ (decided report is) (of_formulas bits budgets is_other) p q = absurd is
+    one_due _ text _ _ _ _ (refused number at not fault) (of_formulas bits budgets is_other) p q = absurd (true≢false not)
+    one_due _ text due _ answer _ (of_documents is) (of_formulas bits budgets is_other) p q = elim is [ ]
+    one_due _ text _ _ _ _ (of_formulas bits budgets is) (decided report is_other) p q = absurd is_other
+    one_due _ text _ _ _ _ (of_formulas bits budgets is) (refused number at not fault) p q = absurd (true≢false not)
+    one_due _ text _ _ _ _ (of_formulas bits budgets is) (of_documents is_other) p q = elim is_other [ ]
+    one_due _ text due other answer another (of_formulas bits budgets is) (of_formulas _ _ is_other) p q = one_ltl status.AllFormulas bits budgets text due other answer another is is_other p q
 
 -- ---- all proved is due to `prove` alone
 
@@ -175,6 +188,7 @@ by_prove Check text report is e all = absurd is
 by_prove (Resume budgets) text report is e all = absurd is
 by_prove (Confirm name sizes bits budgets) text report is e all = absurd is
 by_prove (Induct name var budgets) text report is e all = absurd is
+by_prove (Ltl bits budgets) text report is e all = absurd is
 
 -- all proved is not due to a unit at given sizes
 not_all : (v : Verdict) → is_all (confirmed_status v) ≡ false
@@ -211,6 +225,7 @@ all_due _ text asked _ _ same e (printed tree is) = absurd (true≢false (sym (a
 all_due command text asked _ _ same e (refused number at not fault) = absurd (true≢false (sym (ap is_all e)))
 all_due command text asked due answer same e (of_documents is) = absurd (not_of_documents command asked due answer e is)
 all_due _ text asked due answer same e (of_induction name var budgets is) = absurd (true≢false (sym (ap is_all e) ∙ of_statuses is_all refl refl refl status.Inducted refl name var budgets asked due answer is))
+all_due _ text asked due answer same e (of_formulas bits budgets is) = absurd (true≢false (sym (ap is_all e) ∙ of_ltl_statuses is_all refl refl refl status.AllFormulas refl bits budgets asked due answer is))
 all_due _ text asked _ _ same e (confirmed name sizes bits budgets tree unit v valid called is) = absurd (true≢false (sym (ap is_all e) ∙ not_all v))
 
 pub all_due_to : (command : Option Command) (text answer : List ℕ) → IsDueTo command text status.AllProved answer → (asked : Command) × AllProvedOf asked text

@@ -12,7 +12,7 @@ use Rattle.smv_problem.specs.declared.report.Verdict.TheVariants as verdict
 use Rattle.smv_problem.specs.declared.report.Report.{Report}
 use Rattle.smv_command.specs.Ranges.{AreSizes, most_size}
 use Rattle.smv_command.specs.declared.commands.Command.{Command}
-use Rattle.smv_command.specs.declared.commands.Command.TheVariants.{Prove, Only, Print, Generated, Proof, Check, Resume, Confirm, Induct}
+use Rattle.smv_command.specs.declared.commands.Command.TheVariants.{Prove, Only, Print, Generated, Proof, Check, Resume, Confirm, Induct, Ltl}
 use Rattle.smv_command.specs.declared.exit.Status.{Status}
 use Rattle.smv_command.specs.declared.exit.Status.TheVariants as status
 use Rattle.law_obligations.specs.Sets.{Has, first, later}
@@ -24,8 +24,9 @@ use Rattle.law_judgements.specs.Judgements.{Judgement}
 use Rattle.law_judgements.specs.Judgements.Judgement.{yes, form, design, set}
 use Rattle.law_document_answers.specs.Dues.{IsDocumentDue, documented, open_report, refused_text, too_long_to_check, judged, refused_design, too_long_to_resume, not_old, refused_new, resumed, open_resumed, status_by}
 use Rattle.law_induct_answers.proofs.Statuses.{of_statuses}
+use Rattle.law_answers.proofs.Statuses.{of_ltl_statuses}
 use Rattle.law_answers.specs.Confirmations.{confirmed_lines, confirmed_status}
-use Rattle.law_answers.specs.Dues.{IsDue, IsReportFor, confirmed, decided, is_false, is_unknown, of_documents, of_induction, printed, proved_by, refused, status_of}
+use Rattle.law_answers.specs.Dues.{IsDue, IsReportFor, confirmed, decided, is_false, is_unknown, of_documents, of_formulas, of_induction, printed, proved_by, refused, status_of}
 use Rattle.law_answers.specs.Laws.{HoldsHereIsSo, IsRealAsAsked, RealIsSo}
 
 -- each size of a list that is in range is so
@@ -62,6 +63,7 @@ proved_not Check text report is = refl
 proved_not (Resume budgets) text report is = refl
 proved_not (Confirm name sizes bits budgets) text report is = absurd is
 proved_not (Induct name var budgets) text report is = absurd is
+proved_not (Ltl bits budgets) text report is = absurd is
 
 judged_not : (j : Judgement) → is_asked (status_by j) ≡ false
 judged_not (yes n) = refl
@@ -103,6 +105,7 @@ told_of _ text _ _ asked (printed tree is) = absurd (true≢false (sym asked))
 told_of command text _ _ asked (refused number at other fault) = absurd (true≢false (sym asked))
 told_of command text due answer asked (of_documents is) = absurd (true≢false (sym asked ∙ documents_not command text due answer is))
 told_of _ text due answer asked (of_induction name var budgets is) = absurd (true≢false (sym asked ∙ of_statuses is_asked refl refl refl status.Inducted refl name var budgets text due answer is))
+told_of _ text due answer asked (of_formulas bits budgets is) = absurd (true≢false (sym asked ∙ of_ltl_statuses is_asked refl refl refl status.AllFormulas refl bits budgets text due answer is))
 told_of _ text _ _ asked (confirmed name sizes bits budgets tree unit v valid called is) =
     record { tree = tree; unit = unit; found = v; is_valid = valid; is_called = called; is_confirmed = is; due_is = refl; answer_is = refl }
 
@@ -136,6 +139,7 @@ holds_so law (Some (Proof budgets)) text answer within is = told_of (Proof budge
 holds_so law (Some Check) text answer within is = told_of Check text status.HoldsHere answer refl is
 holds_so law (Some (Resume budgets)) text answer within is = told_of (Resume budgets) text status.HoldsHere answer refl is
 holds_so law (Some (Induct name var budgets)) text answer within is = told_of (Induct name var budgets) text status.HoldsHere answer refl is
+holds_so law (Some (Ltl bits budgets)) text answer within is = told_of (Ltl bits budgets) text status.HoldsHere answer refl is
 
 module _ (one_tree : OneTree) (law : ConfirmedFalseIsReal) where
   real_told : (name sizes : List ℕ) (bits : Bits) (nodes steps : ℕ) (text : List ℕ) (budgets : Budgets) (answer : List ℕ) → AreSizes sizes → IsTold name sizes bits nodes steps text status.Real answer → IsRealAsAsked (Some (Confirm name sizes bits budgets)) text answer
@@ -163,3 +167,4 @@ module _ (one_tree : OneTree) (law : ConfirmedFalseIsReal) where
   real_so (Some Check) text answer within is = told_of Check text status.Real answer refl is
   real_so (Some (Resume budgets)) text answer within is = told_of (Resume budgets) text status.Real answer refl is
   real_so (Some (Induct name var budgets)) text answer within is = told_of (Induct name var budgets) text status.Real answer refl is
+  real_so (Some (Ltl bits budgets)) text answer within is = told_of (Ltl bits budgets) text status.Real answer refl is

@@ -6,12 +6,13 @@ use Rattle.smv_problem.specs.declared.report.Verdict.{Verdict}
 use Rattle.smv_problem.specs.declared.report.Verdict.TheVariants as verdict
 use Rattle.smv_problem.specs.declared.report.Report.{Report}
 use Rattle.smv_command.specs.declared.commands.Command.{Command}
-use Rattle.smv_command.specs.declared.commands.Command.TheVariants.{Prove, Only, Print, Generated, Proof, Check, Resume, Confirm, Induct}
+use Rattle.smv_command.specs.declared.commands.Command.TheVariants.{Prove, Only, Print, Generated, Proof, Check, Resume, Confirm, Induct, Ltl}
 use Rattle.smv_command.specs.declared.exit.Status.{Status}
 use Rattle.smv_command.specs.declared.exit.Status.TheVariants as status
 use Rattle.law_induct_answers.proofs.Statuses.{of_statuses}
+use Rattle.law_answers.proofs.Statuses.{of_ltl_statuses}
 use Rattle.law_answers.specs.Confirmations.{confirmed_status}
-use Rattle.law_answers.specs.Dues.{IsDocumentDue, IsDue, IsDueTo, IsReportFor, confirmed, decided, is_false, is_unknown, of_documents, of_induction, printed, proved_by, refused, status_of, text_for}
+use Rattle.law_answers.specs.Dues.{IsDocumentDue, IsDue, IsDueTo, IsReportFor, confirmed, decided, is_false, is_unknown, of_documents, of_formulas, of_induction, printed, proved_by, refused, status_of, text_for}
 
 -- a status of documents
 abbrev is_own : Status → Bool
@@ -30,6 +31,7 @@ own_not Check text report is = absurd is
 own_not (Resume budgets) text report is = absurd is
 own_not (Confirm name sizes bits budgets) text report is = absurd is
 own_not (Induct name var budgets) text report is = absurd is
+own_not (Ltl bits budgets) text report is = absurd is
 
 of_report : (command : Command) (text : List ℕ) (report : Report) → IsReportFor command text report → is_own (status_of (proved_by command) report) ≡ false
 of_report command text report is = by (list_any (λ u. is_false u.verdict) report.units) (list_any (λ u. is_unknown u.verdict) report.units)
@@ -51,6 +53,7 @@ found _ text _ _ own (printed tree is) = absurd (true≢false (sym own))
 found command text _ _ own (refused number at other fault) = absurd (true≢false (sym own))
 found command text due answer own (of_documents is) = is
 found _ text due answer own (of_induction name var budgets is) = absurd (true≢false (sym own ∙ of_statuses is_own refl refl refl status.Inducted refl name var budgets text due answer is))
+found _ text due answer own (of_formulas bits budgets is) = absurd (true≢false (sym own ∙ of_ltl_statuses is_own refl refl refl status.AllFormulas refl bits budgets text due answer is))
 found _ text _ _ own (confirmed name sizes bits budgets tree unit v valid called is) = absurd (true≢false (sym own ∙ own_none v))
 
 -- the text of a command on documents is the one that was read
@@ -64,6 +67,7 @@ its_text Print text asked answer due e is = elim is [ ]
 its_text (Generated copies) text asked answer due e is = elim is [ ]
 its_text (Confirm name sizes bits budgets) text asked answer due e is = elim is [ ]
 its_text (Induct name var budgets) text asked answer due e is = elim is [ ]
+its_text (Ltl bits budgets) text asked answer due e is = elim is [ ]
 
 -- what holds of the bytes of each such answer holds of what was read
 pub of_read : (P : List ℕ → Type 0) (due : Status) → is_own due ≡ true → ((command : Command) (text answer : List ℕ) → IsDocumentDue command text due answer → P text) →

@@ -1,4 +1,3 @@
-pub mod Open
 pub mod Answers
 pub mod OneDue
 pub mod OneFault
@@ -6,4 +5,7 @@ pub mod OneReport
 mod Documents
 mod Confirmed
 pub mod Asked
+pub mod Statuses
+mod Own
 mod Inducted
+mod Formulas

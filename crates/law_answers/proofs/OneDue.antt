@@ -6,12 +6,13 @@ use Rattle.smv_report.specs.Lines.{fault_text}
 use Rattle.smv_command.specs.declared.commands.Command.{Command}
 use Rattle.smv_command.specs.declared.exit.Status.{Status}
 use Rattle.law_valid_texts.specs.Laws.{OneTree, OneReport, OneUnitReport, UnitsAreOrAreNot}
-use Rattle.smv_command.specs.declared.commands.Command.TheVariants.{Print, Confirm, Induct}
-use Rattle.smv_command.specs.declared.exit.Status.TheVariants.{Inducted}
+use Rattle.smv_command.specs.declared.commands.Command.TheVariants.{Print, Confirm, Induct, Ltl}
+use Rattle.smv_command.specs.declared.exit.Status.TheVariants.{Inducted, AllFormulas}
 use Rattle.law_document_answers.specs.Laws.{OneDocumentAnswer}
 use Rattle.law_induct_answers.specs.Laws.{OneInductAnswer}
+use Rattle.law_ltl_answers.specs.Laws.{OneLtlAnswer}
 use Rattle.law_document_answers.proofs.Statuses.{none_false}
-use Rattle.law_answers.specs.Dues.{IsDue, bits_of, confirmed, decided, lines_for, of_documents, of_induction, printed, proved_by, refused, text_for}
+use Rattle.law_answers.specs.Dues.{IsDue, bits_of, confirmed, decided, lines_for, of_documents, of_formulas, of_induction, printed, proved_by, refused, text_for}
 use Rattle.law_answers.specs.Laws.{is_open}
 use Rattle.law_answers.specs.OneAnswer.{OneAnswer, shows_path}
 use Rattle.law_answers.proofs.Confirmed.{not_confirmed, same_lines, told_known, told_once}
@@ -19,7 +20,7 @@ use Rattle.law_answers.proofs.Answers.{of_ones, of_others}
 use Rattle.law_answers.proofs.OneFault.{one_first, unprinted, unreported}
 use Rattle.law_answers.proofs.OneReport.{one_for}
 
-module _ (one_spelled : IsOneTree) (one_fault : IsOneFault) (not_both : IsNotBoth) (one_tree : OneTree) (either : UnitsAreOrAreNot) (one_report : OneReport) (one_unit : OneUnitReport) (one_document : OneDocumentAnswer) (one_induct : OneInductAnswer) where
+module _ (one_spelled : IsOneTree) (one_fault : IsOneFault) (not_both : IsNotBoth) (one_tree : OneTree) (either : UnitsAreOrAreNot) (one_report : OneReport) (one_unit : OneUnitReport) (one_document : OneDocumentAnswer) (one_induct : OneInductAnswer) (one_ltl : OneLtlAnswer) where
   one_of : (command : Command) (text : List ℕ) (due other : Status) (answer another : List ℕ) → IsDue command text due answer → IsDue command text other another → is_open (bits_of command) due ≡ false → is_open (bits_of command) other ≡ false → shows_path due ≡ false → answer ≡ another
   one_of command text _ _ _ _ (decided report is) (decided other is_other) p q not =
       ap (lines_for command) (one_for one_tree one_report one_unit command text report other is is_other p q (none_false (proved_by command) report (λ e. true≢false (sym (ap shows_path e) ∙ not))))
@@ -56,6 +57,14 @@ module _ (one_spelled : IsOneTree) (one_fault : IsOneFault) (not_both : IsNotBot
   one_of _ text _ _ _ _ (of_induction name var budgets is) (of_documents is_other) p q not = elim is_other [ ]
   one_of _ text due other answer another (of_induction name var budgets is) (of_induction _ _ _ is_other) p q not =
       one_induct Inducted name var budgets text due other answer another is is_other (λ e. true≢false (sym (ap shows_path e) ∙ not))
+  one_of _ text _ _ _ _ (decided report is) (of_formulas bits budgets is_other) p q not = absurd is
+  one_of _ text _ _ _ _ (refused number at own fault) (of_formulas bits budgets is_other) p q not = absurd (true≢false own)
+  one_of _ text _ _ _ _ (of_documents is) (of_formulas bits budgets is_other) p q not = elim is [ ]
+  one_of _ text _ _ _ _ (of_formulas bits budgets is) (decided report is_other) p q not = absurd is_other
+  one_of _ text _ _ _ _ (of_formulas bits budgets is) (refused number at own fault) p q not = absurd (true≢false own)
+  one_of _ text _ _ _ _ (of_formulas bits budgets is) (of_documents is_other) p q not = elim is_other [ ]
+  one_of _ text due other answer another (of_formulas bits budgets is) (of_formulas _ _ is_other) p q not =
+      one_ltl AllFormulas bits budgets text due other answer another is is_other p q (λ e. true≢false (sym (ap shows_path e) ∙ not))
 
   pub one_due : OneAnswer
   one_due None text due other answer another is is_other p q not = is.1 ∙ sym is_other.1

@@ -7,7 +7,7 @@ use Rattle.smv_parse.specs.Spelling.{HasFault}
 use Rattle.smv_parse.specs.Laws.{IsNotBoth, IsOneFault}
 use Rattle.smv_problem.specs.declared.report.Report.{Report}
 use Rattle.smv_command.specs.declared.commands.Command.{Command}
-use Rattle.smv_command.specs.declared.commands.Command.TheVariants.{Prove, Only, Print, Generated, Proof, Check, Resume, Confirm, Induct}
+use Rattle.smv_command.specs.declared.commands.Command.TheVariants.{Prove, Only, Print, Generated, Proof, Check, Resume, Confirm, Induct, Ltl}
 use Rattle.law_valid_texts.specs.Plans.{IsTree}
 use Rattle.law_valid_texts.specs.Faults.{pass_fault}
 use Rattle.law_valid_texts.specs.Laws.{OneTree, UnitsAreOrAreNot}
@@ -61,6 +61,7 @@ module _ (not_both : IsNotBoth) (one_fault : IsOneFault) (one_tree : OneTree) wh
   reported (Resume budgets) text report is = absurd is
   reported (Confirm name sizes bits budgets) text report is = absurd is
   reported (Induct name var budgets) text report is = absurd is
+  reported (Ltl bits budgets) text report is = absurd is
 
   -- a text of which there is a right report has none
   pub unreported : UnitsAreOrAreNot → (command : Command) (text : List ℕ) (report : Report) (number at : ℕ) → IsReportFor command text report → IsFault command text number at → ⊥

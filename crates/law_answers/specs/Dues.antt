@@ -18,7 +18,7 @@ use Rattle.law_reports.specs.Lines.{report_lines}
 use Rattle.smv_report_lines.specs.Generated.{generated_lines}
 use Rattle.smv_gen.specs.Generated.{generated_text}
 use Rattle.smv_command.specs.declared.commands.Command.{Command}
-use Rattle.smv_command.specs.declared.commands.Command.TheVariants.{Prove, Only, Print, Generated, Proof, Check, Resume, Confirm, Induct}
+use Rattle.smv_command.specs.declared.commands.Command.TheVariants.{Prove, Only, Print, Generated, Proof, Check, Resume, Confirm, Induct, Ltl}
 use Rattle.smv_command.specs.declared.exit.Status.{Status}
 use Rattle.smv_command.specs.declared.exit.Status.TheVariants as status
 pub use Rattle.law_document_answers.specs.Statuses.{is_false, is_unknown, status_of}
@@ -30,6 +30,7 @@ use Rattle.law_valid_texts.specs.Joined.{flat_design}
 use Rattle.law_valid_texts.specs.Reports.{IsValid, IsRightReport, IsUnitReport, HasNoUnit}
 use Rattle.law_confirmed.specs.Answers.{IsConfirmed, IsUnitFault, unit_called}
 pub use Rattle.law_induct_answers.specs.Dues.{IsInductDue}
+pub use Rattle.law_ltl_answers.specs.Dues.{IsLtlDue}
 use Rattle.law_answers.specs.Confirmations.{confirmed_status, confirmed_lines}
 
 -- ---- the commands
@@ -45,6 +46,7 @@ reads (Some Check) = true
 reads (Some (Resume budgets)) = true
 reads (Some (Confirm name sizes bits budgets)) = true
 reads (Some (Induct name var budgets)) = true
+reads (Some (Ltl bits budgets)) = true
 reads None = false
 
 -- a command that decides the units of its text
@@ -58,13 +60,15 @@ decides Check = false
 decides (Resume budgets) = false
 decides (Confirm name sizes bits budgets) = true
 decides (Induct name var budgets) = false
+decides (Ltl bits budgets) = false
 
--- a command that reads or writes proof documents, or proves by induction: what is due to it is said apart
+-- a command that reads or writes proof documents, proves by induction or proves formulas over several times: what is due to it is said apart
 abbrev pub is_of_own : Command → Bool
 is_of_own (Proof budgets) = true
 is_of_own Check = true
 is_of_own (Resume budgets) = true
 is_of_own (Induct name var budgets) = true
+is_of_own (Ltl bits budgets) = true
 is_of_own _ = false
 
 -- the text of a command: the one that was read, or the generated one
@@ -78,6 +82,7 @@ text_for Check text = text
 text_for (Resume budgets) text = text
 text_for (Confirm name sizes bits budgets) text = text
 text_for (Induct name var budgets) text = text
+text_for (Ltl bits budgets) text = text
 
 -- the most bytes that a command reads
 abbrev pub limit_for : Command → ℕ
@@ -114,6 +119,7 @@ IsReportFor Check text report = ⊥
 IsReportFor (Resume budgets) text report = ⊥
 IsReportFor (Confirm name sizes bits budgets) text report = ⊥
 IsReportFor (Induct name var budgets) text report = ⊥
+IsReportFor (Ltl bits budgets) text report = ⊥
 
 -- the bits over which a command has its text decided
 abbrev pub bits_of : Command → Bits
@@ -126,6 +132,7 @@ bits_of Check = Declared
 bits_of (Resume budgets) = Declared
 bits_of (Confirm name sizes bits budgets) = bits
 bits_of (Induct name var budgets) = Declared
+bits_of (Ltl bits budgets) = bits
 
 -- the status where all that a command asks to decide is true
 abbrev pub proved_by : Command → Status
@@ -138,6 +145,7 @@ proved_by Check = status.Checked
 proved_by (Resume budgets) = status.Resumed
 proved_by (Confirm name sizes bits budgets) = status.HoldsHere
 proved_by (Induct name var budgets) = status.Inducted
+proved_by (Ltl bits budgets) = status.AllFormulas
 
 -- what is written of a report
 abbrev pub lines_for : Command → Report → List ℕ
@@ -150,6 +158,7 @@ lines_for Check report = report_lines report
 lines_for (Resume budgets) report = report_lines report
 lines_for (Confirm name sizes bits budgets) report = report_lines report
 lines_for (Induct name var budgets) report = report_lines report
+lines_for (Ltl bits budgets) report = report_lines report
 
 -- ---- the answer
 
@@ -169,6 +178,7 @@ pub data IsDue : Command → List ℕ → Status → List ℕ → Type 0 where
   refused : {command : Command} {text : List ℕ} (number at : ℕ) → is_of_own command ≡ false → IsFault command text number at → IsDue command text status.Refused (fault_text text number at)
   of_documents : {command : Command} {text : List ℕ} {due : Status} {answer : List ℕ} → IsDocumentDue command text due answer → IsDue command text due answer
   of_induction : {text : List ℕ} {due : Status} {answer : List ℕ} (name var : Name) (budgets : Budgets) → IsInductDue status.Inducted name var budgets text due answer → IsDue (Induct name var budgets) text due answer
+  of_formulas : {text : List ℕ} {due : Status} {answer : List ℕ} (bits : Bits) (budgets : Budgets) → IsLtlDue status.AllFormulas bits budgets text due answer → IsDue (Ltl bits budgets) text due answer
   confirmed : {text : List ℕ} (name sizes : List ℕ) (bits : Bits) (budgets : Budgets) (tree : Text) (unit : DesignUnit) (verdict : Verdict) → IsValid text tree → unit_called (flat_design tree) name ≡ Some unit →
       IsConfirmed text name sizes bits budgets.nodes budgets.steps verdict → IsDue (Confirm name sizes bits budgets) text (confirmed_status verdict) (confirmed_lines (flat_design tree) unit name verdict)
 

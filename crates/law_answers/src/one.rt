@@ -3,6 +3,7 @@ ghost use Rattle.law_answers.specs.OneAnswer.{OneAnswer};
 
 use law_document_answers::documents::one_due;
 use law_induct_answers::answers::one_induction_due;
+use law_ltl_answers::answers::one_ltl_due;
 use law_valid_texts::valid_texts::{one_tree, reports_agree};
 use smv_parse::one_answer as one_parse;
 
@@ -15,4 +16,5 @@ pub fn one_answer()
     reports_agree();
     one_due();
     one_induction_due();
+    one_ltl_due();
 }

@@ -3,6 +3,7 @@ pub mod TextTrees
 pub mod SizeFaults
 pub mod Refusals
 pub mod Inductions
+pub mod Formulas
 pub mod TreeLists
 pub mod Firsts
 pub mod TreeForms

@@ -9,7 +9,7 @@ use Rattle.smv_problem.specs.declared.report.Report.{Report}
 use Rattle.smv_parse.specs.Laws.{IsWithin}
 use Rattle.smv_report.specs.Lines.{fault_text}
 use Rattle.smv_command.specs.declared.commands.Command.{Command}
-use Rattle.smv_command.specs.declared.commands.Command.TheVariants.{Prove, Only, Print, Generated, Proof, Check, Resume, Confirm, Induct}
+use Rattle.smv_command.specs.declared.commands.Command.TheVariants.{Prove, Only, Print, Generated, Proof, Check, Resume, Confirm, Induct, Ltl}
 use Rattle.smv_command.specs.declared.exit.Status.{Status}
 use Rattle.smv_command.specs.declared.exit.Status.TheVariants as status
 use Rattle.law_valid_texts.specs.Faults.{pass_fault}
@@ -20,7 +20,7 @@ use Rattle.law_document_answers.specs.Dues.{documented, open_report, refused_tex
 use Rattle.law_answers.proofs.Answers.{of_ones}
 use Rattle.law_answers.specs.Confirmations.{confirmed_status}
 use Rattle.smv_bits.specs.declared.Bits.TheVariants.{Declared}
-use Rattle.law_answers.specs.Dues.{IsFault, too_long, malformed, faulty, unnamed, of_unit, IsDue, IsDocumentDue, confirmed, decided, is_of_own, of_documents, of_induction, printed, refused, status_of, proved_by, is_false, is_unknown}
+use Rattle.law_answers.specs.Dues.{IsFault, too_long, malformed, faulty, unnamed, of_unit, IsDue, IsDocumentDue, confirmed, decided, is_of_own, of_documents, of_formulas, of_induction, printed, refused, status_of, proved_by, is_false, is_unknown}
 use Rattle.law_fault_places.specs.PassFaults.{IsFaultWithin, PassFaultsAreWithin}
 use Rattle.law_fault_places.specs.FlatPlaces.{DesignsAreWithin, FlattenedTextsAreWithin}
 use Rattle.law_fault_places.specs.FaultsOfTexts.{IsFaultUnder, TreesOfTextsAreWithin, FaultsAreWithin}
@@ -40,6 +40,7 @@ under Check n number at is = is
 under (Resume budgets) n number at is = is
 under (Confirm name sizes bits budgets) n number at is = inl is
 under (Induct name var budgets) n number at is = is
+under (Ltl bits budgets) n number at is = is
 
 module _ (form : IsWithin) (trees : TreesOfTextsAreWithin) (passes : PassFaultsAreWithin) (flat : FlattenedTextsAreWithin) (designs : DesignsAreWithin) where
   pub fault-within : (command : Command) (text : List ℕ) (number at : ℕ) → IsFault command text number at → IsFaultUnder command (length text) number at
@@ -66,6 +67,7 @@ proved-not Check = refl
 proved-not (Resume budgets) = refl
 proved-not (Confirm name sizes bits budgets) = refl
 proved-not (Induct name var budgets) = refl
+proved-not (Ltl bits budgets) = refl
 
 decided-not : (command : Command) (report : Report) → is_refused (status_of (proved_by command) report) ≡ false
 decided-not command report = by (list_any (λ (u : UnitResult). is_false u.verdict) report.units) (list_any (λ (u : UnitResult). is_unknown u.verdict) report.units)
@@ -91,6 +93,7 @@ refusal-tells within _ text _ _ own (printed tree h) e = absurd (true≢false (s
 refusal-tells within command text _ _ own (refused number at other h) e = (number, at, h, within command text number at h, refl)
 refusal-tells within _ text _ _ own (confirmed name sizes bits budgets tree unit v valid called h) e = absurd (true≢false (sym e ∙ confirmed-not v))
 refusal-tells within _ text due answer own (of_induction name var budgets h) e = absurd (true≢false own)
+refusal-tells within _ text due answer own (of_formulas bits budgets h) e = absurd (true≢false own)
 refusal-tells within command text due answer own (of_documents h) e = absurd (true≢false (sym (of_ones command text due answer h) ∙ own))
 
 -- ---- of documents

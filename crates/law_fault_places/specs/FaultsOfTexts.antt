@@ -1,8 +1,9 @@
--- Each refusal of a text has a number of 1 to 31, or for the sizes of a confirmation 34 or 35, or for an induction 36, and a place of at most the text's length.
+-- Each refusal of a text has a number of 1 to 31, or for the sizes of a confirmation 34 or 35, or for an induction 36, and a place of at most the text's length; each refusal of formulas a number of 1 to 31, or 37.
 use Rattle.std.specs.Prelude.{◌≡◌, ◌≤◌, ◌⊎◌, ℕ, false, List, length}
 use Rattle.smv_core.specs.Values.{Name}
 use Rattle.smv_core.specs.declared.tree.Text.{Text}
 use Rattle.smv_parse.specs.Spelling.{SpellsText}
+use Rattle.smv_bits.specs.declared.Bits.{Bits}
 use Rattle.smv_problem.specs.declared.report.Budgets.{Budgets}
 use Rattle.smv_report.specs.Lines.{fault_text}
 use Rattle.smv_command.specs.declared.commands.Command.{Command}
@@ -10,7 +11,7 @@ use Rattle.smv_command.specs.declared.commands.Command.TheVariants.{Confirm}
 use Rattle.smv_command.specs.declared.exit.Status.TheVariants as status
 use Rattle.law_judgements.specs.Judgements.{IsFaultOf}
 use Rattle.law_strengthened_texts.specs.Stronger.{Stronger, back, IsStrengthened}
-use Rattle.law_answers.specs.Dues.{IsFault, IsDue, IsDocumentDue, IsInductDue, is_of_own}
+use Rattle.law_answers.specs.Dues.{IsFault, IsDue, IsDocumentDue, IsInductDue, IsLtlDue, is_of_own}
 use Rattle.law_fault_places.specs.TreePlaces.{TextIsWithin}
 use Rattle.law_fault_places.specs.PassFaults.{IsFaultWithin}
 
@@ -51,3 +52,11 @@ PlacesAreCarriedBack = (text : List ℕ) (name var : Name) (s : Stronger) (at : 
 abbrev pub InductionRefusalsTellFaults : Type 0
 InductionRefusalsTellFaults = (name var : Name) (budgets : Budgets) (text answer : List ℕ) → IsInductDue status.Inducted name var budgets text status.Refused answer →
     ((number : ℕ) × (at : ℕ) × IsFaultWithin (length text) number at × (answer ≡ fault_text text number at)) ⊎ (answer ≡ fault_text text 36 0)
+
+-- a number of 1 to 31, or 37, which formulas over several times have alone
+abbrev pub IsFormulaFault : ℕ → Type 0
+IsFormulaFault number = ((1 ≤ number) × (number ≤ 31)) ⊎ (number ≡ 37)
+
+-- a refusal that is due to the command for formulas over several times tells a fault of such a number
+abbrev pub FormulaRefusalsTellFaults : Type 0
+FormulaRefusalsTellFaults = (bits : Bits) (budgets : Budgets) (text answer : List ℕ) → IsLtlDue status.AllFormulas bits budgets text status.Refused answer → (number : ℕ) × (at : ℕ) × IsFormulaFault number × (answer ≡ fault_text text number at)

@@ -1,5 +1,5 @@
 // Laws of the places of faults, each the contract of a function that does nothing.
-ghost use Rattle.law_fault_places.specs.FaultsOfTexts.{TreesOfTextsAreWithin, FaultsAreWithin, RefusalsTellFaults, DocumentRefusalsTellFaults, PlacesAreCarriedBack, InductionRefusalsTellFaults};
+ghost use Rattle.law_fault_places.specs.FaultsOfTexts.{TreesOfTextsAreWithin, FaultsAreWithin, RefusalsTellFaults, DocumentRefusalsTellFaults, PlacesAreCarriedBack, InductionRefusalsTellFaults, FormulaRefusalsTellFaults};
 
 use crate::flat::{designs_are_within, flattened_texts_are_within};
 use crate::passes::pass_faults_are_within;
@@ -33,12 +33,14 @@ pub fn places_are_carried_back()
     stronger_is_placed();
 }
 
-/// A refusal that is due tells a fault of such a number and place; one of an induction may tell 36 at the front.
+/// A refusal that is due tells a fault of such a number and place; one of an induction may tell 36 at the front, and one of formulas over several times tells a number of 1 to 31, or 37.
 pub fn refusals_tell_faults()
     ensures texts { RefusalsTellFaults }
     ensures documents { DocumentRefusalsTellFaults }
     ensures inductions { InductionRefusalsTellFaults }
+    ensures formulas { FormulaRefusalsTellFaults }
 {
+    one_answer();
     faults_are_within();
     places_are_carried_back();
 }

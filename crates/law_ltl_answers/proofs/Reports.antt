@@ -24,7 +24,7 @@ module _ (s : Script) (bits : Bits) (nodes images : ℕ) where
       let verdicts = verdict_is r.verdict q.verdict tells f in
       λ i. record { name = names i; params = params i; verdict = verdicts i }
 
-  results_are : (u : ℕ) (entries : List Entry) (rs qs : List UnitResult) → AreResultsFrom s bits nodes images u entries rs → AreResultsFrom s bits nodes images u entries qs → told_of rs ≡ told_of qs → list_any (λ r. is_false r.verdict) rs ≡ false → rs ≡ qs
+  pub results_are : (u : ℕ) (entries : List Entry) (rs qs : List UnitResult) → AreResultsFrom s bits nodes images u entries rs → AreResultsFrom s bits nodes images u entries qs → told_of rs ≡ told_of qs → list_any (λ r. is_false r.verdict) rs ≡ false → rs ≡ qs
   results_are u [] [] [] is is_too tells f = refl
   results_are u [] [] (q ∷ qs) is is_too tells f = absurd is_too
   results_are u [] (r ∷ rs) qs is is_too tells f = absurd is

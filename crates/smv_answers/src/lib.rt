@@ -204,6 +204,10 @@ pub fn reads(command: &Command) -> bool
             var: _,
             budgets: _,
         } => true,
+        Command::Ltl {
+            bits: _,
+            budgets: _,
+        } => true,
     }
 }
 
@@ -235,6 +239,10 @@ fn written(alloc: Global, command: &Command, report: &Report) -> Result<Vec<u8>,
         Command::Induct {
             name: _,
             var: _,
+            budgets: _,
+        } => lines(alloc, report),
+        Command::Ltl {
+            bits: _,
             budgets: _,
         } => lines(alloc, report),
     }
@@ -270,6 +278,10 @@ fn proved_by(command: &Command) -> Status
             var: _,
             budgets: _,
         } => Status::Inducted,
+        Command::Ltl {
+            bits: _,
+            budgets: _,
+        } => Status::AllFormulas,
     }
 }
 

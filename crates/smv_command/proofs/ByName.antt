@@ -5,7 +5,7 @@ use Rattle.std.proofs.lemmas.Slice.Eq.{bytes_eq-Decides}
 use Rattle.std.specs.Prelude.{option_map}
 use Rattle.clap.specs.Walk.{Row, Text}
 use Rattle.smv_problem.specs.declared.report.Budgets.{Budgets}
-use Rattle.smv_command.specs.declared.commands.Command.TheVariants.{Prove, Only, Print, Generated, Proof, Check, Resume, Confirm, Induct}
+use Rattle.smv_command.specs.declared.commands.Command.TheVariants.{Prove, Only, Print, Generated, Proof, Check, Resume, Confirm, Induct, Ltl}
 use Rattle.smv_command.specs.Ranges.{most_copies}
 use Rattle.smv_command.specs.Commands.{bits_in, both, budgets_in, has_bits, misnames, name_in, named, number_in, sizes_in, var_in}
 use Rattle.smv_command.proofs.Values.{both_some, map_some}
@@ -46,11 +46,15 @@ pub induct_is : (rows : List Row) → named (codes "induct") rows ≡ option_map
 unfolding named
 induct_is rows = refl
 
+pub ltl_is : (rows : List Row) → named (codes "ltl") rows ≡ option_map (λ p. Ltl p.0 p.1) (both (bits_in rows) (budgets_in rows))
+unfolding named
+ltl_is rows = refl
+
 pub no_name : (word : Text) (rows : List Row) → bytes_eq word (codes "prove") ≡ false → bytes_eq word (codes "only") ≡ false → bytes_eq word (codes "print") ≡ false
     → bytes_eq word (codes "generated") ≡ false → bytes_eq word (codes "proof") ≡ false → bytes_eq word (codes "check") ≡ false → bytes_eq word (codes "resume") ≡ false → bytes_eq word (codes "confirm") ≡ false
-    → bytes_eq word (codes "induct") ≡ false → named word rows ≡ None
+    → bytes_eq word (codes "induct") ≡ false → bytes_eq word (codes "ltl") ≡ false → named word rows ≡ None
 unfolding named
-no_name word rows t1 t2 t3 t4 t5 t6 t7 t8 t9 = rw (t1, t2, t3, t4, t5, t6, t7, t8, t9) refl
+no_name word rows t1 t2 t3 t4 t5 t6 t7 t8 t9 t10 = rw (t1, t2, t3, t4, t5, t6, t7, t8, t9, t10) refl
 
 -- ---- the same at a word that is the name
 
@@ -86,6 +90,9 @@ pub at_induct : (word : Text) (rows : List Row) → bytes_eq word (codes "induct
     → named word rows ≡ option_map (λ p. Induct p.0 p.1.0 p.1.1) (both (name_in rows) (both (var_in rows) (budgets_in rows)))
 at_induct word rows e = at_word word (codes "induct") rows e ∙ induct_is rows
 
+pub at_ltl : (word : Text) (rows : List Row) → bytes_eq word (codes "ltl") ≡ true → named word rows ≡ option_map (λ p. Ltl p.0 p.1) (both (bits_in rows) (budgets_in rows))
+at_ltl word rows e = at_word word (codes "ltl") rows e ∙ ltl_is rows
+
 -- ---- bits that are named, or need no name
 
 -- where they are named by a word of theirs
@@ -101,8 +108,8 @@ pub needs_none : (word w : Text) (rows : List Row) → bytes_eq word w ≡ true 
 needs_none word w rows e none = subst (λ (u : Text). misnames u rows ≡ false) (sym ((bytes_eq-Decides word w).0 e)) (ap (λ (b : Bool). b && not (is_some (bits_in rows))) none)
 
 -- and in any but those that have them
-pub has_none : (word : Text) (rows : List Row) → bytes_eq word (codes "prove") ≡ false → bytes_eq word (codes "only") ≡ false → bytes_eq word (codes "confirm") ≡ false → misnames word rows ≡ false
-has_none word rows e f g = rw (e, f, g) refl
+pub has_none : (word : Text) (rows : List Row) → bytes_eq word (codes "prove") ≡ false → bytes_eq word (codes "only") ≡ false → bytes_eq word (codes "confirm") ≡ false → bytes_eq word (codes "ltl") ≡ false → misnames word rows ≡ false
+has_none word rows e f g h = rw (e, f, g, h) refl
 
 -- where they are not named there is no command
 pub no_bits : (name : Option Text) (budgets : Option Budgets) → option_map (λ p. Only p.0 p.1.0 p.1.1) (both name (both None budgets)) ≡ None
@@ -155,15 +162,20 @@ given_to_induct word rows e there =
     let (var, budgets) = both_some (var_in rows) (budgets_in rows) more in
     (name, var, budgets)
 
+pub given_to_ltl : (word : Text) (rows : List Row) → bytes_eq word (codes "ltl") ≡ true → is_some (named word rows) ≡ true
+    → (is_some (bits_in rows) ≡ true) × (is_some (budgets_in rows) ≡ true)
+given_to_ltl word rows e there = both_some (bits_in rows) (budgets_in rows) (map_some (λ p. Ltl p.0 p.1) (both (bits_in rows) (budgets_in rows)) (ap is_some (sym (at_ltl word rows e)) ∙ there))
+
 -- a command that is there has its bits named
 pub some_names_bits : (word : Text) (rows : List Row) → is_some (named word rows) ≡ true → misnames word rows ≡ false
-some_names_bits word rows there = by (bytes_eq word (codes "prove")) refl (bytes_eq word (codes "only")) refl (bytes_eq word (codes "confirm")) refl
+some_names_bits word rows there = by (bytes_eq word (codes "prove")) refl (bytes_eq word (codes "only")) refl (bytes_eq word (codes "confirm")) refl (bytes_eq word (codes "ltl")) refl
   where
-    by : (p : Bool) → bytes_eq word (codes "prove") ≡ p → (q : Bool) → bytes_eq word (codes "only") ≡ q → (r : Bool) → bytes_eq word (codes "confirm") ≡ r → misnames word rows ≡ false
-    by true e q f r g = names_bits word rows (both_some (bits_in rows) (budgets_in rows) (map_some (λ p. Prove p.0 p.1) (both (bits_in rows) (budgets_in rows)) (ap is_some (sym (at_prove word rows e)) ∙ there))).0
-    by false e true f r g =
+    by : (p : Bool) → bytes_eq word (codes "prove") ≡ p → (q : Bool) → bytes_eq word (codes "only") ≡ q → (r : Bool) → bytes_eq word (codes "confirm") ≡ r → (s : Bool) → bytes_eq word (codes "ltl") ≡ s → misnames word rows ≡ false
+    by true e q f r g s h = names_bits word rows (both_some (bits_in rows) (budgets_in rows) (map_some (λ p. Prove p.0 p.1) (both (bits_in rows) (budgets_in rows)) (ap is_some (sym (at_prove word rows e)) ∙ there))).0
+    by false e true f r g s h =
         let bits_and_budgets = both (bits_in rows) (budgets_in rows) in
         let more = both_some (name_in rows) bits_and_budgets (map_some (λ p. Only p.0 p.1.0 p.1.1) (both (name_in rows) bits_and_budgets) (ap is_some (sym (at_only word rows f)) ∙ there)) in
         names_bits word rows (both_some (bits_in rows) (budgets_in rows) more.1).0
-    by false e false f true g = names_bits word rows (given_to_confirm word rows g there).2
-    by false e false f false g = has_none word rows e f g
+    by false e false f true g s h = names_bits word rows (given_to_confirm word rows g there).2
+    by false e false f false g true h = names_bits word rows (given_to_ltl word rows h there).0
+    by false e false f false g false h = has_none word rows e f g h

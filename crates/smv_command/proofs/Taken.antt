@@ -12,10 +12,10 @@ use Rattle.smv_command.specs.Ranges.{most_nodes, most_steps, most_copies, most_s
 use Rattle.smv_command.specs.Built.{IsGiven}
 use Rattle.smv_command.specs.CommandLine as line
 use Rattle.smv_command.specs.Commands.{bits_in, both, budgets_in, misnames, name_in, named, number, number_in, numbers, sizes_in, var_in}
-use Rattle.smv_command.specs.declared.commands.Command.TheVariants.{Prove, Only, Generated, Proof, Resume, Confirm, Induct}
+use Rattle.smv_command.specs.declared.commands.Command.TheVariants.{Prove, Only, Generated, Proof, Resume, Confirm, Induct, Ltl}
 use Rattle.smv_command.proofs.Rows.{AllFit, Among, EachKnown, HasValue, IsKnown, are_known, built_entered, given_pass, has_default, has_given, kept_by_default, level_is, value_of}
 use Rattle.smv_command.proofs.Values.{both_given, both_there, map_given, number_given, word_given}
-use Rattle.smv_command.proofs.ByName.{prove_is, only_is, print_is, generated_is, proof_is, check_is, resume_is, confirm_is, induct_is}
+use Rattle.smv_command.proofs.ByName.{prove_is, only_is, print_is, generated_is, proof_is, check_is, resume_is, confirm_is, induct_is, ltl_is}
 
 -- the subcommands as a parse sees them, once the command is built
 abbrev above : Shape
@@ -172,6 +172,14 @@ induct_given rest e right =
     (both_there (var_in rows) (budgets_in rows) (ap is_some varied.first)
     (budgets_given c (with_default (with_default (settled c (walk c [] nothing_held rest).held).rows name) var) each_of_induct.1.1.0 each_of_induct.1.1.1.0 level.fits))
 
+ltl_given : (rest : List Text) → Gives rest (seen line.ltl)
+ltl_given rest e right =
+    let c = bits ∷ budgets in
+    let rows = rows_after c [] rest in
+    let level = level_is (seen line.ltl) [] rest false [] (are_known c each_of_prove) each_of_prove e in
+    ap is_some (ltl_is rows) ∙ both_given (λ p. Ltl p.0 p.1) (bits_in rows) (budgets_in rows) (named_there (is_some (bits_in rows)) right)
+    (budgets_given c (with_default (settled c (walk c [] nothing_held rest).held).rows bits) each_of_prove.1.0 each_of_prove.1.1.0 level.fits)
+
 among_gives : (s : Shape) (rest : List Text) → Among s (built line.smv).subs → Gives rest s
 among_gives s rest (inl is) = subst (Gives rest) (sym is) (prove_given rest)
 among_gives s rest (inr (inl is)) = subst (Gives rest) (sym is) (only_given rest)
@@ -182,7 +190,8 @@ among_gives s rest (inr (inr (inr (inr (inr (inl is)))))) = subst (Gives rest) (
 among_gives s rest (inr (inr (inr (inr (inr (inr (inl is))))))) = subst (Gives rest) (sym is) (resume_given rest)
 among_gives s rest (inr (inr (inr (inr (inr (inr (inr (inl is)))))))) = subst (Gives rest) (sym is) (confirm_given rest)
 among_gives s rest (inr (inr (inr (inr (inr (inr (inr (inr (inl is))))))))) = subst (Gives rest) (sym is) (induct_given rest)
-among_gives s rest (inr (inr (inr (inr (inr (inr (inr (inr (inr never))))))))) = absurd never
+among_gives s rest (inr (inr (inr (inr (inr (inr (inr (inr (inr (inl is)))))))))) = subst (Gives rest) (sym is) (ltl_given rest)
+among_gives s rest (inr (inr (inr (inr (inr (inr (inr (inr (inr (inr never)))))))))) = absurd never
 
 -- words without a fault name a command, unless they misname its bits
 pub taken_given : (words : List Text) → fault_of line.smv words ≡ [] → IsGiven (subcommand_of line.smv words)

@@ -71,6 +71,9 @@ confirm = subcommand (codes "confirm") (name ∷ sizes ∷ bits ∷ nodes ∷ st
 abbrev pub induct : Shape
 induct = subcommand (codes "induct") (name ∷ var ∷ nodes ∷ steps ∷ [])
 
+abbrev pub ltl : Shape
+ltl = subcommand (codes "ltl") (bits ∷ nodes ∷ steps ∷ [])
+
 -- no program's name stands before the words, a subcommand is required, and nothing asks for help or the version
 abbrev pub bare : Shape
 bare = record (new_shape (codes "smv")) {
@@ -82,4 +85,4 @@ bare = record (new_shape (codes "smv")) {
 }
 
 abbrev pub smv : App
-smv = record { top = record bare { is_leaf = false }; subs = prove ∷ only ∷ print ∷ generated ∷ proof ∷ check ∷ resume ∷ confirm ∷ induct ∷ [] }
+smv = record { top = record bare { is_leaf = false }; subs = prove ∷ only ∷ print ∷ generated ∷ proof ∷ check ∷ resume ∷ confirm ∷ induct ∷ ltl ∷ [] }

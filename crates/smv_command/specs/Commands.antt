@@ -11,7 +11,7 @@ use Rattle.smv_bits.specs.declared.Bits.{Bits}
 use Rattle.smv_bits.specs.declared.Bits.TheVariants.{Near, Declared}
 use Rattle.smv_problem.specs.declared.report.Budgets.{Budgets}
 use Rattle.smv_command.specs.declared.commands.Command.{Command}
-use Rattle.smv_command.specs.declared.commands.Command.TheVariants.{Prove, Only, Print, Generated, Proof, Check, Resume, Confirm, Induct}
+use Rattle.smv_command.specs.declared.commands.Command.TheVariants.{Prove, Only, Print, Generated, Proof, Check, Resume, Confirm, Induct, Ltl}
 use Rattle.smv_command.specs.Ranges.{most_nodes, most_steps, most_copies, most_size}
 use Rattle.smv_command.specs.CommandLine.{smv}
 
@@ -65,11 +65,12 @@ named word rows =
     else (if bytes_eq word (codes "resume") then option_map Resume (budgets_in rows)
     else (if bytes_eq word (codes "confirm") then option_map (λ p. Confirm p.0 p.1.0 p.1.1.0 p.1.1.1) (both (name_in rows) (both (sizes_in rows) (both (bits_in rows) (budgets_in rows))))
     else (if bytes_eq word (codes "induct") then option_map (λ p. Induct p.0 p.1.0 p.1.1) (both (name_in rows) (both (var_in rows) (budgets_in rows)))
-    else None))))))))
+    else (if bytes_eq word (codes "ltl") then option_map (λ p. Ltl p.0 p.1) (both (bits_in rows) (budgets_in rows))
+    else None)))))))))
 
 -- a subcommand that has bits
 abbrev pub has_bits : Text → Bool
-has_bits word = bytes_eq word (codes "prove") || (bytes_eq word (codes "only") || bytes_eq word (codes "confirm"))
+has_bits word = bytes_eq word (codes "prove") || (bytes_eq word (codes "only") || (bytes_eq word (codes "confirm") || bytes_eq word (codes "ltl")))
 
 -- one whose bits are named by none of their words
 abbrev pub misnames : Text → List Row → Bool

@@ -3,7 +3,7 @@ use Rattle.std.specs.Prelude.{ℕ, ◌≤◌, List}
 use Rattle.std.specs.List.{All}
 use Rattle.smv_problem.specs.declared.report.Budgets.{Budgets}
 use Rattle.smv_command.specs.declared.commands.Command.{Command}
-use Rattle.smv_command.specs.declared.commands.Command.TheVariants.{Prove, Only, Print, Generated, Proof, Check, Resume, Confirm, Induct}
+use Rattle.smv_command.specs.declared.commands.Command.TheVariants.{Prove, Only, Print, Generated, Proof, Check, Resume, Confirm, Induct, Ltl}
 
 -- the most beads, the most images, the most copies and the greatest size that a command may ask for
 abbrev pub most_nodes : ℕ
@@ -38,3 +38,4 @@ IsInRange Check = Unit {0}
 IsInRange (Resume budgets) = AreInRange budgets
 IsInRange (Confirm name sizes bits budgets) = AreSizes sizes × AreInRange budgets
 IsInRange (Induct name var budgets) = AreInRange budgets
+IsInRange (Ltl bits budgets) = AreInRange budgets

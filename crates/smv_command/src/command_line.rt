@@ -20,7 +20,8 @@ pub(crate) fn smv<'a>(alloc: Global) -> Result<Command<'a>, AllocError>
         .subcommand(Command::new(alloc, "check"))?
         .subcommand(resume(alloc)?)?
         .subcommand(confirm(alloc)?)?
-        .subcommand(induct(alloc)?)
+        .subcommand(induct(alloc)?)?
+        .subcommand(ltl(alloc)?)
 }
 
 // The command before its subcommands.
@@ -93,6 +94,15 @@ fn induct<'a>(alloc: Global) -> Result<Command<'a>, AllocError>
     Command::new(alloc, "induct")
         .arg(name(alloc))?
         .arg(var(alloc))?
+        .arg(nodes(alloc))?
+        .arg(steps(alloc))
+}
+
+fn ltl<'a>(alloc: Global) -> Result<Command<'a>, AllocError>
+    ensures { IfOk result (HasShape line.ltl) }
+{
+    Command::new(alloc, "ltl")
+        .arg(bits(alloc))?
         .arg(nodes(alloc))?
         .arg(steps(alloc))
 }

@@ -46,4 +46,9 @@ pub enum Command {
         var: Name,
         budgets: Budgets,
     },
+    /// Decide all units of the translated text, in which monitors stand for the formulas over several times.
+    Ltl {
+        bits: Bits,
+        budgets: Budgets,
+    },
 }

@@ -41,6 +41,8 @@ pub enum Status {
     Real,
     /// Every unit of the strengthened text is true, so that every unit of the text that was read holds.
     Inducted,
+    /// Every unit of the translated text is true, so that every unit of the text that was read holds, and so do its formulas over several times.
+    AllFormulas,
 }
 
 impl Status {
@@ -67,6 +69,7 @@ impl Status {
             Status::HoldsHere => 10,
             Status::Real => 11,
             Status::Inducted => 0,
+            Status::AllFormulas => 0,
         }
     }
 }

@@ -4,7 +4,7 @@ ghost use Rattle.std.specs.String.{string_bytes};
 ghost use Rattle.clap.specs.Matches.{found_of};
 ghost use Rattle.clap.specs.Walk.{first_of, rows_of, texts};
 ghost use Rattle.clap.specs.Simple.{subcommand_rows_of};
-ghost use Rattle.smv_command.specs.declared.commands.Command.TheVariants.{Prove, Only, Confirm, Induct};
+ghost use Rattle.smv_command.specs.declared.commands.Command.TheVariants.{Prove, Only, Confirm, Induct, Ltl};
 ghost use Rattle.smv_command.specs.Built.{IsGiven};
 ghost use Rattle.smv_command.specs.Ranges.{most_size};
 ghost use Rattle.smv_command.specs.Commands.{bits_in, bits_named, both, budgets_in, command_of, misnames, name_in, named, number, number_in, numbers, sizes_in, var_in};
@@ -72,6 +72,8 @@ fn named(alloc: Global, word: &str, matches: &ArgMatches<'_>) -> Result<Option<C
     } else if word == "induct" {
         let command = induct_in(alloc, matches)?;
         Ok(Some(command))
+    } else if word == "ltl" {
+        Ok(ltl_in(matches))
     } else {
         unreachable!()
     }
@@ -86,6 +88,20 @@ fn prove_in(matches: &ArgMatches<'_>) -> Option<Command>
         Some(bits) => {
             let budgets = budgets_in(matches);
             Some(Command::Prove { bits, budgets })
+        }
+        None => None,
+    }
+}
+
+// The command that decides all units of the translated text, or none where it names its bits by none of their words.
+fn ltl_in(matches: &ArgMatches<'_>) -> Option<Command>
+    requires { is_some (bits_in (rows_of (found_of matches.now))) ≡ true → is_some (budgets_in (rows_of (found_of matches.now))) ≡ true }
+    ensures { result ≡ option_map (λ p. Ltl p.0 p.1) (both (bits_in (rows_of (found_of matches.now))) (budgets_in (rows_of (found_of matches.now)))) }
+{
+    match bits_in(matches) {
+        Some(bits) => {
+            let budgets = budgets_in(matches);
+            Some(Command::Ltl { bits, budgets })
         }
         None => None,
     }

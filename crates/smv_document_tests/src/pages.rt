@@ -17,6 +17,18 @@ const ROWS_1: &[Row] = &[
         "good//chain: true\nheld: true\nall: true\nproved 3 of 3\n",
     ),
     (
+        "ltl",
+        "module main() { ask, grant : boolean; turn : 0..2; init(turn) := 0; next(turn) := (turn + 1) mod 3; grant := ask & turn = 2; served : assert G if (ask & ~grant) X (if (~grant) X (grant)); once : assert G if (grant) X (W (~grant, ask)); }",
+        1,
+        "served: false at 2\n time 0: ask = 1, grant = 0, turn = 0, m0 = 0, m1 = 0\n time 1: ask = 0, grant = 0, turn = 1, m0 = 1, m1 = 0\n time 2: ask = 0, grant = 0, turn = 2, m0 = 0, m1 = 1\nonce: true\nproved 1 of 2\n",
+    ),
+    (
+        "ltl",
+        "module main() { ask, grant : boolean; turn : 0..2; init(turn) := 0; next(turn) := (turn + 1) mod 3; grant := ask & turn = 2; served : assert G if (ask & ~grant) X (if (ask & ~grant) X (if (ask) grant)); once : assert G if (grant) X (W (~grant, ask)); }",
+        0,
+        "served: true\nonce: true\nproved 2 of 2\n",
+    ),
+    (
         "confirm opa//arch 1 1",
         "scalarset WORD undefined; scalarset REG undefined; module main() { issue : boolean; src, dst : REG; reg : array REG of WORD; f : array WORD of WORD; opa, alu : WORD; ex : struct { valid : boolean; dst : REG; val : WORD; }; forall (w in WORD) next(f[w]) := f[w]; opa := reg[src]; init(ex.valid) := 0; next(ex.valid) := issue; next(ex.dst) := dst; next(ex.val) := opa; alu := f[ex.val]; if (ex.valid) next(reg[ex.dst]) := alu; abstract r : array REG of WORD; abstract operand, result : WORD; layer arch : { operand := r[src]; result := f[operand]; forall (k in REG) init(r[k]) := reg[k]; if (issue) next(r[dst]) := result; if (issue) opa := operand; } }",
         10,
@@ -107,6 +119,24 @@ const ROWS_2: &[Row] = &[
         "ordset TIME undefined; scalarset WORD undefined; module main() { seen : array TIME of array WORD of boolean; forall (t in TIME) forall (w in WORD) fresh[t][w] : assert G ~seen[t][w]; }",
         1,
         "fresh: false at 0\n case #0, #0\n time 0: seen[#0][#0] = 1\nproved 0 of 1\n",
+    ),
+    (
+        "ltl",
+        "module main() {\n  ask, answer : boolean;\n  late : assert G if (ask) X (X (X (X (X (X (X (X (X (answer)))))))));\n}\n",
+        3,
+        "fault 37 at line 3 column 52\n",
+    ),
+    (
+        "ltl",
+        "module main() { request, grant : boolean; init(grant) := 0; next(grant) := request; granted : assert G if (request) X (grant); unasked : assert G if (~request) X (W (~grant, request)); }",
+        0,
+        "granted: true\nunasked: true\nproved 2 of 2\n",
+    ),
+    (
+        "ltl",
+        "scalarset WORD undefined; module main() { ask, answer : boolean; word, offered : WORD; delay : 0..3; init(ask) := 0; next(ask) := ask & ~answer ? 1 : {0, 1}; if (~ask | answer) next(word) := offered; next(delay) := ask & ~answer ? delay - 1 : {0, 1, 2, 3}; answer := ask & delay = 0; answered : assert G if (ask & ~answer) X (if (~answer) X (if (~answer) X (answer))); stands : assert G if (ask & ~answer) X (ask); forall (w in WORD) held[w] : assert G if (ask & ~answer & word = w) X (word = w); once : assert G if (answer) X (W (~answer, ask)); }",
+        0,
+        "answered: true\nstands: true\nheld: true\nonce: true\nproved 4 of 4\n",
     ),
 ];
 

@@ -12,7 +12,7 @@ use Rattle.smv_bits.specs.declared.Bits.{Bits}
 use Rattle.smv_problem.specs.declared.report.Budgets.{Budgets}
 use Rattle.smv_problem.specs.declared.report.Report.{Report}
 use Rattle.smv_command.specs.declared.commands.Command.{Command}
-use Rattle.smv_command.specs.declared.commands.Command.TheVariants.{Prove, Only, Print, Generated, Proof, Check, Resume, Confirm, Induct}
+use Rattle.smv_command.specs.declared.commands.Command.TheVariants.{Prove, Only, Print, Generated, Proof, Check, Resume, Confirm, Induct, Ltl}
 use Rattle.smv_command.specs.declared.exit.Status.{Status}
 use Rattle.smv_command.specs.declared.exit.Status.TheVariants as status
 use Rattle.smv_gen.specs.Generated.{generated_text}
@@ -20,8 +20,10 @@ use Rattle.smv_answers.specs.Reports.{IsUnitReport, HasNoUnit}
 use Rattle.law_document_answers.specs.Dues.{refused_text, too_long_to_check, too_long_to_resume}
 use Rattle.law_judgements.specs.Judgements as judgement
 use Rattle.law_induct_answers.specs.Dues as induct
+use Rattle.law_ltl_answers.specs.Dues as ltl
+use Rattle.law_translated_texts.specs.Answers as translation
 use Rattle.smv_top.specs.Refusals.{IsRefused}
-use Rattle.smv_answers.specs.Dues.{IsDue, IsDueTo, IsFault, IsReportFor, text_for, usage_line, decided, printed, refused, too_long, malformed, unnamed, decides, is_of_own, length_fault, limit, limit_for, of_documents, of_induction, lines_for, proved_by, status_of}
+use Rattle.smv_answers.specs.Dues.{IsDue, IsDueTo, IsFault, IsReportFor, text_for, usage_line, decided, printed, refused, too_long, malformed, unnamed, decides, is_of_own, length_fault, limit, limit_for, of_documents, of_formulas, of_induction, lines_for, proved_by, status_of}
 
 pub due_report : (command : Command) (text : List ℕ) (report : Report) (due : Status) (answer : List ℕ) → IsReportFor command text report → due ≡ status_of (proved_by command) report → answer ≡ lines_for command report → IsDue command text due answer
 due_report command text report due answer is e f = rw e (rw f (decided report is))
@@ -70,6 +72,7 @@ due_over Check text long = of_documents (too_long_to_check long)
 due_over (Resume budgets) text long = of_documents (too_long_to_resume budgets long)
 due_over (Confirm name sizes bits budgets) text long = refused 31 0 refl (too_long long)
 due_over (Induct name var budgets) text long = of_induction name var budgets (induct.refused_text status.Inducted name var budgets 31 0 (judgement.too_long long))
+due_over (Ltl bits budgets) text long = of_formulas bits budgets (ltl.refused_text status.AllFormulas bits budgets 31 0 (translation.too_long long))
 
 at_first : (command : Command) (text : List ℕ) → fault_text [] (length_fault command) 0 ≡ fault_text text (length_fault command) 0
 at_first command text = refl

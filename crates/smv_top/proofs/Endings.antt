@@ -11,17 +11,18 @@ use Rattle.smv_problem.specs.declared.report.Verdict.{Verdict}
 use Rattle.smv_problem.specs.declared.report.Verdict.TheVariants as verdict
 use Rattle.smv_command.specs.Ranges.{IsInRange}
 use Rattle.smv_command.specs.declared.commands.Command.{Command}
-use Rattle.smv_command.specs.declared.commands.Command.TheVariants.{Prove, Only, Print, Generated, Proof, Check, Resume, Confirm, Induct}
+use Rattle.smv_command.specs.declared.commands.Command.TheVariants.{Prove, Only, Print, Generated, Proof, Check, Resume, Confirm, Induct, Ltl}
 use Rattle.smv_command.specs.declared.exit.Status.{Status}
-use Rattle.smv_command.specs.declared.exit.Status.TheVariants.{AllProved, SomeFalse, SomeUnknown, Refused, Usage, ReadFault, WriteFault, OutOfMemory, PartProved, Printed as printed_out, Generated as all_generated, Documented, Checked, Rejected, Resumed as all_resumed, HoldsHere, Real, Inducted}
+use Rattle.smv_command.specs.declared.exit.Status.TheVariants.{AllProved, SomeFalse, SomeUnknown, Refused, Usage, ReadFault, WriteFault, OutOfMemory, PartProved, Printed as printed_out, Generated as all_generated, Documented, Checked, Rejected, Resumed as all_resumed, HoldsHere, Real, Inducted, AllFormulas}
 use Rattle.smv_answers.specs.Reports.{IsSoundDesign}
 use Rattle.law_judgements.specs.Judgements.{Judgement}
 use Rattle.law_judgements.specs.Judgements.Judgement.{yes, form, design, set}
 use Rattle.law_document_answers.specs.Dues.{IsDocumentDue, documented, open_report, refused_text, too_long_to_check, judged, refused_design, too_long_to_resume, not_old, refused_new, resumed, open_resumed, status_by}
 use Rattle.law_induct_answers.proofs.Statuses.{of_statuses}
-use Rattle.smv_answers.specs.Dues.{IsDue, IsDueTo, confirmed, decided, of_documents, of_induction, printed, refused, is_false, is_unknown, proved_by, status_of, Gave, Ends}
+use Rattle.law_answers.proofs.Statuses.{of_ltl_statuses}
+use Rattle.smv_answers.specs.Dues.{IsDue, IsDueTo, confirmed, decided, of_documents, of_formulas, of_induction, printed, refused, is_false, is_unknown, proved_by, status_of, Gave, Ends}
 use Rattle.law_answers.specs.Confirmations.{confirmed_status}
-use Rattle.smv_answers.specs.Laws.{CheckedDocumentIsSound, DocumentedTextIsSound, HoldsAsAsked, HoldsHereIsSo, HoldsSound, InductedTextIsSound, OneStatus, ProvedIsSound, RealIsSo, RenewsSound, ResumedDocumentIsSound}
+use Rattle.smv_answers.specs.Laws.{AreSoundFormulas, CheckedDocumentIsSound, DocumentedTextIsSound, FormulaTextIsSound, HoldsAsAsked, HoldsHereIsSo, HoldsSound, InductedTextIsSound, OneStatus, ProvedIsSound, RealIsSo, RenewsSound, ResumedDocumentIsSound}
 use Rattle.smv_top.specs.Clauses.{Completes, ShowsReal}
 
 -- ---- what the source gave
@@ -62,6 +63,7 @@ is_own Check = refl
 is_own (Resume budgets) = refl
 is_own (Confirm name sizes bits budgets) = refl
 is_own (Induct name var budgets) = refl
+is_own (Ltl bits budgets) = refl
 
 -- the two statuses under which nothing is written
 abbrev is_read : Status → Bool
@@ -116,6 +118,7 @@ of_command command text _ _ (refused number at own fault) = refl
 of_command command text due answer (of_documents is) = of_document command text due answer is
 of_command _ text _ _ (confirmed name sizes bits budgets tree unit told valid called is) = of_verdict told
 of_command _ text due answer (of_induction name var budgets is) = not_false (is_answered due) (of_statuses (λ s. not (is_answered s)) refl refl refl Inducted refl name var budgets text due answer is)
+of_command _ text due answer (of_formulas bits budgets is) = not_false (is_answered due) (of_ltl_statuses (λ s. not (is_answered s)) refl refl refl AllFormulas refl bits budgets text due answer is)
 
 -- a status under which no answer is written whole is never owed
 pub owed_not : (command : Command) (text : List ℕ) (due : Status) (answer : List ℕ) (other : Status) → IsDue command text due answer → is_answered other ≡ false → due ≢ other
@@ -156,6 +159,7 @@ finished status r command text answer old new due taken front (inl e) = rw e (wh
     whole HoldsHere is due all = (answer, due, all)
     whole Real is due all = (answer, due, all)
     whole Inducted is due all = (answer, due, all)
+    whole AllFormulas is due all = (answer, due, all)
     whole ReadFault is due all = absurd (true≢false (sym is))
     whole WriteFault is due all = absurd (true≢false (sym is))
     whole OutOfMemory is due all = absurd (true≢false (sym is))
@@ -185,6 +189,11 @@ resumed_renews_sound law r command text old new is ends =
 pub inducted_is_sound : InductedTextIsSound → (r : Status) (command : Option Command) (text : List ℕ) (old new : Option (List ℕ)) → r ≡ Inducted → Ends r command text old new → IsSoundDesign text
 inducted_is_sound law r command text old new is ends =
     let e : Ends Inducted command text old new = subst (λ s. Ends s command text old new) is ends in
+    law command text e.0 e.1
+
+pub formulas_are_sound : FormulaTextIsSound → (r : Status) (command : Option Command) (text : List ℕ) (old new : Option (List ℕ)) → r ≡ AllFormulas → Ends r command text old new → AreSoundFormulas text
+formulas_are_sound law r command text old new is ends =
+    let e : Ends AllFormulas command text old new = subst (λ s. Ends s command text old new) is ends in
     law command text e.0 e.1
 
 pub holds_as_asked : HoldsHereIsSo → (r : Status) (command : Option Command) (text : List ℕ) (old new : Option (List ℕ)) → IfSome command IsInRange → r ≡ HoldsHere → Ends r command text old new → HoldsAsAsked command text
@@ -219,6 +228,7 @@ module _ (one : OneStatus) (command : Option Command) (text : List ℕ) (old new
   completed HoldsHere no_read no_write e due answer is p q = inl (one command text HoldsHere due e.0 answer e.1 is p q)
   completed Real no_read no_write e due answer is p q = inl (one command text Real due e.0 answer e.1 is p q)
   completed Inducted no_read no_write e due answer is p q = inl (one command text Inducted due e.0 answer e.1 is p q)
+  completed AllFormulas no_read no_write e due answer is p q = inl (one command text AllFormulas due e.0 answer e.1 is p q)
   completed ReadFault no_read no_write e due answer is p q = absurd (no_read refl)
   completed WriteFault no_read no_write e due answer is p q = absurd (no_write refl)
   completed OutOfMemory no_read no_write e due answer is p q = inr refl

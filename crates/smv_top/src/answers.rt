@@ -8,6 +8,7 @@ ghost use Rattle.smv_answers.specs.Dues.{IsDue, IsReportFor, decides, is_of_own,
 
 use crate::confirmations::confirmed;
 use crate::documents::{checked, documented, resumed};
+use crate::formulas::translated;
 use crate::inductions::inducted;
 use crate::limits::{LIMIT, TOO_LONG};
 use smv_answers::{Answer, printed, refused, reported};
@@ -45,6 +46,7 @@ pub fn answer_to(alloc: Global, command: &Command, text: &[u8]) -> Result<Answer
         Command::Induct { name, var, budgets } => inducted(
             alloc, command, text, name, var, *budgets,
         ),
+        Command::Ltl { bits, budgets } => translated(alloc, command, text, *bits, *budgets),
     }
 }
 

@@ -12,7 +12,7 @@ ghost use Rattle.smv_command.specs.Ranges.{IsInRange};
 ghost use Rattle.smv_command.specs.declared.commands.Command.TheVariants as variant;
 ghost use Rattle.smv_command.specs.Commands.{command_of};
 ghost use Rattle.smv_answers.specs.Reports.{IsSoundDesign};
-ghost use Rattle.smv_answers.specs.Laws.{HoldsAsAsked, HoldsSound, RenewsSound};
+ghost use Rattle.smv_answers.specs.Laws.{AreSoundFormulas, HoldsAsAsked, HoldsSound, RenewsSound};
 ghost use Rattle.smv_answers.specs.Dues.{Gave, Ends, length_fault, limit_for, reads, text_for};
 ghost use Rattle.smv_report.specs.Lines.{fault_text};
 ghost use Rattle.smv_top.specs.Clauses.{Completes, ShowsReal};
@@ -20,6 +20,7 @@ ghost use Rattle.smv_top.specs.Clauses.{Completes, ShowsReal};
 mod answers;
 mod confirmations;
 mod documents;
+mod formulas;
 mod inductions;
 mod limits;
 mod refusals;
@@ -27,7 +28,8 @@ mod refusals;
 use answers::answer_to;
 use limits::{CHECK_LIMIT, LIMIT, RESUME_LIMIT};
 use smv_answers::laws::{
-    confirmed_is_so, documents_are_sound, induction_is_sound, one_status, proved_is_sound,
+    confirmed_is_so, documents_are_sound, formulas_are_sound, induction_is_sound, one_status,
+    proved_is_sound,
 };
 use smv_answers::usage;
 use smv_command::words_laws::numbers_are_in_range;
@@ -62,6 +64,9 @@ pub fn run<S: Source, K: Sink>(
     // And of the text where a claim that may assume itself for smaller values of a parameter proves it.
     ensures inducted { result ≡ Status.Inducted → IfSome (S.left source.old) IsSoundDesign }
 
+    // And, where claims are formulas over several times: the text spells a tree with its formulas, and each of these too holds at every time of every run, for all sizes.
+    ensures formulas { result ≡ Status.AllFormulas → IfSome (S.left source.old) AreSoundFormulas }
+
     // At the sizes that the words give: no run breaks an instance of the unit, or what was written shows one that does, and none is shorter.
     ensures holds_here { result ≡ Status.HoldsHere → IfSome (S.left source.old) (HoldsAsAsked (command_of (map string_bytes words.now))) }
     ensures real { result ≡ Status.Real → IfSome (S.left source.old) (ShowsReal (command_of (map string_bytes words.now)) (K.taken sink.old) (K.taken sink.new)) }
@@ -85,6 +90,7 @@ pub fn run<S: Source, K: Sink>(
     proved_is_sound();
     documents_are_sound();
     induction_is_sound();
+    formulas_are_sound();
     confirmed_is_so();
     numbers_are_in_range();
     answered(alloc, words, source, sink)
@@ -153,6 +159,10 @@ fn asked<S: Source, K: Sink>(
             var: _,
             budgets: _,
         } => of_source(alloc, command, source, sink),
+        Command::Ltl {
+            bits: _,
+            budgets: _,
+        } => of_source(alloc, command, source, sink),
     }
 }
 
@@ -212,6 +222,10 @@ fn limit_for(command: &Command) -> usize
             var: _,
             budgets: _,
         } => LIMIT,
+        Command::Ltl {
+            bits: _,
+            budgets: _,
+        } => LIMIT,
     }
 }
 
@@ -243,6 +257,10 @@ fn too_long(command: &Command) -> &'static [u8]
         Command::Induct {
             name: _,
             var: _,
+            budgets: _,
+        } => TEXT_TOO_LONG,
+        Command::Ltl {
+            bits: _,
             budgets: _,
         } => TEXT_TOO_LONG,
     }

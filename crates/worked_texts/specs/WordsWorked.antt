@@ -3,7 +3,7 @@ use Rattle.std.specs.Prelude.{◌≡◌, ℕ, List, [], ◌∷◌, map, codes, S
 use Rattle.clap.specs.Walk.{Text}
 use Rattle.smv_bits.specs.declared.Bits.TheVariants.{Near, Declared}
 use Rattle.smv_command.specs.declared.commands.Command.{Command}
-use Rattle.smv_command.specs.declared.commands.Command.TheVariants.{Prove, Only, Print, Generated, Confirm, Induct}
+use Rattle.smv_command.specs.declared.commands.Command.TheVariants.{Prove, Only, Print, Generated, Confirm, Induct, Ltl}
 use Rattle.smv_command.specs.Commands.{command_of}
 
 abbrev pub in_first : ℕ → List Text → List Text
@@ -40,6 +40,7 @@ no_commands =
     ∷ codes "only p q"
     ∷ codes "induct p"
     ∷ codes "induct p i j"
+    ∷ codes "ltl p"
     ∷ codes "generated 5 6"
     ∷ []
 
@@ -105,6 +106,7 @@ other_bits =
     ∷ codes "confirm p --bits 1"
     ∷ codes "proof --bits declared"
     ∷ codes "induct p i --bits near"
+    ∷ codes "ltl --bits far"
     ∷ codes "--bits declared prove"
     ∷ []
 
@@ -141,6 +143,8 @@ bits =
     (codes "prove --bits declared", Prove Declared (record { nodes = 1000000; steps = 1000 }))
     ∷ (codes "prove --bits=declared --nodes 5", Prove Declared (record { nodes = 5; steps = 1000 }))
     ∷ (codes "prove --bits near", Prove Near (record { nodes = 1000000; steps = 1000 }))
+    ∷ (codes "ltl", Ltl Near (record { nodes = 1000000; steps = 1000 }))
+    ∷ (codes "ltl --steps 7 --bits declared", Ltl Declared (record { nodes = 1000000; steps = 7 }))
     ∷ (codes "only p --bits declared", Only (codes "p") Declared (record { nodes = 1000000; steps = 1000 }))
     ∷ (codes "only --bits=near -- declared", Only (codes "declared") Near (record { nodes = 1000000; steps = 1000 }))
     ∷ (codes "confirm p 1", Confirm (codes "p") (1 ∷ []) Near (record { nodes = 1000000; steps = 1000 }))

@@ -1,8 +1,8 @@
 use Rattle.smv_answers.specs.Reports.{IsSoundDesign}
-use Rattle.smv_answers.specs.Laws.{HoldsAsAsked, HoldsSound, RenewsSound}
+use Rattle.smv_answers.specs.Laws.{AreSoundFormulas, HoldsAsAsked, HoldsSound, RenewsSound}
 use Rattle.smv_answers.specs.Dues.{Ends}
 use Rattle.smv_top.specs.Clauses.{Completes, ShowsReal}
-use Rattle.smv_top.proofs.Endings.{of_told, all_proved_is_sound, checked_holds_sound, completed, documented_is_sound, holds_as_asked, inducted_is_sound, ranged, real_as_asked, resumed_renews_sound}
+use Rattle.smv_top.proofs.Endings.{of_told, all_proved_is_sound, checked_holds_sound, completed, documented_is_sound, formulas_are_sound, holds_as_asked, inducted_is_sound, ranged, real_as_asked, resumed_renews_sound}
 use Rattle.smv_top.proofs.run.Goals as goal
 
 pub returns-clause-sound : goal.returns-clause-sound
@@ -19,6 +19,9 @@ returns-clause-resumed g c is = of_told _ (λ text. Ends _ _ text _ _) RenewsSou
 
 pub returns-clause-inducted : goal.returns-clause-inducted
 returns-clause-inducted g c is = of_told _ (λ text. Ends _ _ text _ _) IsSoundDesign c.answered.ensures.ends (λ text. inducted_is_sound c.induction_is_sound.ensures _ _ text _ _ is)
+
+pub returns-clause-formulas : goal.returns-clause-formulas
+returns-clause-formulas g c is = of_told _ (λ text. Ends _ _ text _ _) AreSoundFormulas c.answered.ensures.ends (λ text. formulas_are_sound c.formulas_are_sound.ensures _ _ text _ _ is)
 
 pub returns-clause-holds_here : goal.returns-clause-holds_here
 returns-clause-holds_here g c is =

@@ -37,3 +37,7 @@ returns-in-Confirm c = rw c.in-Confirm.is refl
 pub returns-in-Induct : goal.returns-in-Induct
 unfolding digits
 returns-in-Induct c = rw c.in-Induct.is refl
+
+pub returns-in-Ltl : goal.returns-in-Ltl
+unfolding digits
+returns-in-Ltl c = rw c.in-Ltl.is refl

@@ -1,5 +1,5 @@
 use Rattle.std.proofs.Common.{Some, None, true≢false}
-use Rattle.smv_command.specs.declared.commands.Command.TheVariants.{Prove, Only, Print, Generated, Proof, Check, Resume, Confirm, Induct}
+use Rattle.smv_command.specs.declared.commands.Command.TheVariants.{Prove, Only, Print, Generated, Proof, Check, Resume, Confirm, Induct, Ltl}
 use Rattle.law_answers.specs.Laws.{UnreadIsDue}
 use Rattle.law_answers.proofs.laws.unread_is_due.Goals as goal
 
@@ -17,3 +17,4 @@ returns c = unread
     unread (Some (Resume budgets)) text other due answer nothing is = absurd (true≢false nothing)
     unread (Some (Confirm name sizes bits budgets)) text other due answer nothing is = absurd (true≢false nothing)
     unread (Some (Induct name var budgets)) text other due answer nothing is = absurd (true≢false nothing)
+    unread (Some (Ltl bits budgets)) text other due answer nothing is = absurd (true≢false nothing)

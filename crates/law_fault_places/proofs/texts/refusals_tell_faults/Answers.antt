@@ -2,6 +2,7 @@ use Rattle.std.proofs.Common.{refl}
 use Rattle.smv_command.specs.declared.exit.Status.TheVariants as status
 use Rattle.law_fault_places.proofs.Refusals.{refusal-tells, document-refusal-tells}
 use Rattle.law_fault_places.proofs.Inductions.{induction-refusal-tells}
+use Rattle.law_fault_places.proofs.Formulas.{formula-refusal-tells}
 use Rattle.law_fault_places.proofs.texts.refusals_tell_faults.Goals as goal
 
 pub returns-clause-texts : goal.returns-clause-texts
@@ -12,3 +13,6 @@ returns-clause-documents c = λ command bytes answer due. document-refusal-tells
 
 pub returns-clause-inductions : goal.returns-clause-inductions
 returns-clause-inductions c = λ name var budgets text answer due. induction-refusal-tells c.faults_are_within.ensures c.places_are_carried_back.ensures status.Inducted refl name var budgets text status.Refused answer due refl
+
+pub returns-clause-formulas : goal.returns-clause-formulas
+returns-clause-formulas c = λ bits budgets text answer due. formula-refusal-tells c.one_answer.ensures.within c.faults_are_within.ensures status.AllFormulas refl bits budgets text status.Refused answer due refl

@@ -30,5 +30,7 @@ returns c =
     c.in_ok-subcommand-7.ensures.shape c.in_ok-resume.ensures.local ∙ ap₂ with_subcommand with_6 (ap top_of c.in_ok-resume.ensures.app) in
     let with_8 : app_of c.in_ok-subcommand-8.field-0 ≡ so_far (line.prove ∷ line.only ∷ line.print ∷ line.generated ∷ line.proof ∷ line.check ∷ line.resume ∷ line.confirm ∷ []) =
     c.in_ok-subcommand-8.ensures.shape c.in_ok-confirm.ensures.local ∙ ap₂ with_subcommand with_7 (ap top_of c.in_ok-confirm.ensures.app) in
-    IfOk-weaker c.subcommand-9.result _ _ (λ command added. added.shape c.in_ok-induct.ensures.local ∙ ap₂ with_subcommand with_8 (ap top_of c.in_ok-induct.ensures.app))
-    c.subcommand-9.ensures
+    let with_9 : app_of c.in_ok-subcommand-9.field-0 ≡ so_far (line.prove ∷ line.only ∷ line.print ∷ line.generated ∷ line.proof ∷ line.check ∷ line.resume ∷ line.confirm ∷ line.induct ∷ []) =
+    c.in_ok-subcommand-9.ensures.shape c.in_ok-induct.ensures.local ∙ ap₂ with_subcommand with_8 (ap top_of c.in_ok-induct.ensures.app) in
+    IfOk-weaker c.subcommand-10.result _ _ (λ command added. added.shape c.in_ok-ltl.ensures.local ∙ ap₂ with_subcommand with_9 (ap top_of c.in_ok-ltl.ensures.app))
+    c.subcommand-10.ensures

@@ -7,7 +7,7 @@ use Rattle.clap.specs.Walk.{rows_of}
 use Rattle.smv_command.specs.Ranges.{most_copies}
 use Rattle.smv_command.specs.declared.commands.Command.TheVariants.{Generated, Proof, Resume}
 use Rattle.smv_command.proofs.Values.{number_ranged}
-use Rattle.smv_command.proofs.ByName.{at_check, at_confirm, at_generated, at_induct, at_only, at_print, at_proof, at_prove, at_resume, given_to_confirm, given_to_generated, given_to_induct, given_to_only, given_to_proof, given_to_prove, given_to_resume, has_none, names_bits, needs_none, no_name}
+use Rattle.smv_command.proofs.ByName.{at_check, at_confirm, at_generated, at_induct, at_ltl, at_only, at_print, at_proof, at_prove, at_resume, given_to_confirm, given_to_generated, given_to_induct, given_to_ltl, given_to_only, given_to_proof, given_to_prove, given_to_resume, has_none, names_bits, needs_none, no_name}
 use Rattle.smv_command.proofs.words.named.Goals as goal
 
 pub prove_in-requires : goal.prove_in-requires
@@ -84,9 +84,15 @@ induct_in-requires-clause-budgets c = (given_to_induct c.args.word.now (rows_of 
 pub returns-in_ok-command : goal.returns-in_ok-command
 returns-in_ok-command c = at_induct c.args.word.now (rows_of (found_of c.args.matches.now)) (sym c.eq-else-eq-8.ensures ∙ c.if-eq-9.true) ∙ c.in_ok-command.ensures
 
+pub ltl_in-requires : goal.ltl_in-requires
+ltl_in-requires c = λ there. (given_to_ltl c.args.word.now (rows_of (found_of c.args.matches.now)) (sym c.eq-else-eq-9.ensures ∙ c.if-eq-10.true) (c.requires (names_bits c.args.word.now (rows_of (found_of c.args.matches.now)) there))).1
+
+pub returns-then-eq-10 : goal.returns-then-eq-10
+returns-then-eq-10 c = at_ltl c.args.word.now (rows_of (found_of c.args.matches.now)) (sym c.eq-else-eq-9.ensures ∙ c.if-eq-10.true) ∙ sym c.ltl_in.ensures
+
 pub unreachable-requires : goal.unreachable-requires
 unreachable-requires c =
     let none =
     no_name c.args.word.now (rows_of (found_of c.args.matches.now)) (sym c.eq.ensures ∙ c.if-eq.false) (sym c.eq-else-eq.ensures ∙ c.if-eq-2.false) (sym c.eq-else-eq-2.ensures ∙ c.if-eq-3.false)
-    (sym c.eq-else-eq-3.ensures ∙ c.if-eq-4.false) (sym c.eq-else-eq-4.ensures ∙ c.if-eq-5.false) (sym c.eq-else-eq-5.ensures ∙ c.if-eq-6.false) (sym c.eq-else-eq-6.ensures ∙ c.if-eq-7.false) (sym c.eq-else-eq-7.ensures ∙ c.if-eq-8.false) (sym c.eq-else-eq-8.ensures ∙ c.if-eq-9.false) in
-    true≢false (sym (ap is_some (sym none) ∙ (c.requires (has_none c.args.word.now (rows_of (found_of c.args.matches.now)) (sym c.eq.ensures ∙ c.if-eq.false) (sym c.eq-else-eq.ensures ∙ c.if-eq-2.false) (sym c.eq-else-eq-7.ensures ∙ c.if-eq-8.false)))))
+    (sym c.eq-else-eq-3.ensures ∙ c.if-eq-4.false) (sym c.eq-else-eq-4.ensures ∙ c.if-eq-5.false) (sym c.eq-else-eq-5.ensures ∙ c.if-eq-6.false) (sym c.eq-else-eq-6.ensures ∙ c.if-eq-7.false) (sym c.eq-else-eq-7.ensures ∙ c.if-eq-8.false) (sym c.eq-else-eq-8.ensures ∙ c.if-eq-9.false) (sym c.eq-else-eq-9.ensures ∙ c.if-eq-10.false) in
+    true≢false (sym (ap is_some (sym none) ∙ (c.requires (has_none c.args.word.now (rows_of (found_of c.args.matches.now)) (sym c.eq.ensures ∙ c.if-eq.false) (sym c.eq-else-eq.ensures ∙ c.if-eq-2.false) (sym c.eq-else-eq-7.ensures ∙ c.if-eq-8.false) (sym c.eq-else-eq-9.ensures ∙ c.if-eq-10.false)))))

@@ -11,7 +11,7 @@ use Rattle.smv_command.specs.Ranges.{AreInRange, AreSizes, IsInRange, most_nodes
 use Rattle.smv_bits.specs.declared.Bits.{Bits}
 use Rattle.smv_problem.specs.declared.report.Budgets.{Budgets}
 use Rattle.smv_command.specs.declared.commands.Command.{Command}
-use Rattle.smv_command.specs.declared.commands.Command.TheVariants.{Prove, Only, Generated, Proof, Resume, Confirm, Induct}
+use Rattle.smv_command.specs.declared.commands.Command.TheVariants.{Prove, Only, Generated, Proof, Resume, Confirm, Induct, Ltl}
 use Rattle.smv_command.proofs.Values.{number_ranged, spelled_ranged}
 use Rattle.smv_command.proofs.words_laws.numbers_are_in_range.Goals as goal
 
@@ -116,7 +116,8 @@ named_ranged word rows =
     (chosen (bytes_eq word (codes "check")) _ _ tt
     (chosen (bytes_eq word (codes "resume")) _ _ (plain Resume (budgets_in rows) (λ b p. p) r)
     (chosen (bytes_eq word (codes "confirm")) _ _ (confirm_ranged rows)
-    (chosen (bytes_eq word (codes "induct")) _ _ (induct_ranged rows) tt))))))))
+    (chosen (bytes_eq word (codes "induct")) _ _ (induct_ranged rows)
+    (chosen (bytes_eq word (codes "ltl")) _ _ (behind (λ p. Ltl p.0 p.1) (bits_in rows) (budgets_in rows) (λ a b p. p) r) tt)))))))))
 
 words_ranged : (words : List Text) → InRange (command_of words)
 unfolding command_of
