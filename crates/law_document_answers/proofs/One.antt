@@ -6,7 +6,7 @@ use Rattle.smv_report.specs.Lines.{fault_text}
 use Rattle.smv_problem.specs.declared.report.Budgets.{Budgets}
 use Rattle.smv_problem.specs.declared.report.Report.{Report}
 use Rattle.smv_command.specs.declared.commands.Command.{Command}
-use Rattle.smv_command.specs.declared.commands.Command.TheVariants.{Prove, Only, Print, Generated, Proof, Check, Resume, Confirm, Induct}
+use Rattle.smv_command.specs.declared.commands.Command.TheVariants.{Prove, Only, Print, Generated, Proof, Check, Resume, Confirm, Induct, Ltl}
 use Rattle.smv_command.specs.declared.exit.Status.{Status}
 use Rattle.smv_command.specs.declared.exit.Status.TheVariants as status
 use Rattle.law_events.specs.Laws.{OneVerdict}
@@ -180,3 +180,4 @@ module _ (not_both : IsNotBoth) (one_fault : IsOneFault) (one_tree : OneTree) (o
   one_due (Generated copies) text due other answer another is is_too = elim is [ ]
   one_due (Confirm name sizes bits budgets) text due other answer another is is_too = elim is [ ]
   one_due (Induct name var budgets) text due other answer another is is_too = elim is [ ]
+  one_due (Ltl bits budgets) text due other answer another is is_too = elim is [ ]
