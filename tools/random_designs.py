@@ -4,9 +4,9 @@
     tools/random_designs.py PROGRAM [--seed N] [--count N] [--words WORDS ..] [--wide | --formulas]
 
 Each design of three bits has boolean signals a, b and c, each with a value of now, or with `init` and `next` (some under an `if`, some without one), right sides with sets and
-conditionals, and one claim. All eight states are gone through from the definitions of the language alone; the verdict and the length of a shortest path have to be
+conditionals, some of them Undefined, and one claim. All eight states are gone through from the definitions of the language alone; the verdict and the length of a shortest path have to be
 those that PROGRAM writes, under each of the WORDS that are given (`--words "--bits declared" "--bits near --nodes 40"`; none where there are none).
-With --formulas the claim of each design of three bits is a formula over several times, which `ltl` decides; by brute force what it asks of later times is carried along each run, state by state, with no monitors.
+With --formulas the claims are formulas over several times, which `ltl` decides: `formula_designs.py` says of which designs.
 With --wide designs have booleans, numbers, arrays and a scalarset, and two claims; what PROGRAM writes under each of the words has to be the same for each claim, verdicts and lengths.
 A claim that is unknown under some words is compared under the others alone. Designs that the program refuses are left out. It ends with status 1 where an answer differs.
 """
@@ -18,31 +18,61 @@ import subprocess
 import sys
 
 NAMES = ["a", "b", "c"]
+
+
+def truth(x):
+    """What an outcome is in logic: 0, 1, or None, which is Undefined."""
+    return x if x in (0, 1) else None
+
+
+def negation(x):
+    return None if truth(x) is None else 1 - x
+
+
+def conjunction(x, y):
+    x, y = truth(x), truth(y)
+    return 0 if 0 in (x, y) else None if None in (x, y) else 1
+
+
+def disjunction(x, y):
+    return negation(conjunction(negation(x), negation(y)))
+
+
+def strict(value):
+    """An operator of values that is Undefined where one of its sides is."""
+    return lambda x, y: None if x is None or y is None else value(x, y)
+
+
 SIGNS = {
-    "&": lambda x, y: x & y,
-    "|": lambda x, y: x | y,
-    "->": lambda x, y: (1 - x) | y,
-    "<->": lambda x, y: int(x == y),
-    "=": lambda x, y: int(x == y),
-    "~=": lambda x, y: int(x != y),
+    "&": conjunction,
+    "|": disjunction,
+    "->": lambda x, y: disjunction(negation(x), y),
+    "<->": lambda x, y: strict(lambda x, y: int(x == y))(truth(x), truth(y)),
+    "=": strict(lambda x, y: int(x == y)),
+    "~=": strict(lambda x, y: int(x != y)),
+    "+": strict(lambda x, y: x + y),
+    "-": strict(lambda x, y: x - y if x >= y else None),
 }
+# Those that give truth values; sums and differences are few, since much is Undefined beside them.
+LOGIC = ["&", "|", "->", "<->", "=", "~="]
 
 
 def expression(depth, names):
     """Returns an expression as text, each part of it in parentheses."""
     kind = random.random()
     if depth == 0 or kind < 0.25:
-        return random.choice(names + ["0", "1"])
+        return random.choice(names + ["0", "1"]) if kind < 0.97 else "2"
     if kind < 0.4:
-        return f"~({expression(depth - 1, names)})"
+        return f"(~({expression(depth - 1, names)}))"
     if kind < 0.9:
-        return f"({expression(depth - 1, names)} {random.choice(list(SIGNS))} {expression(depth - 1, names)})"
+        sign = random.choice(LOGIC) if random.random() < 0.9 else random.choice(["+", "-"])
+        return f"({expression(depth - 1, names)} {sign} {expression(depth - 1, names)})"
     return f"({expression(depth - 1, names)} ? {expression(depth - 1, names)} : {expression(depth - 1, names)})"
 
 
 def value_of(text):
-    """Returns the function from a state to the value of such an expression."""
-    signs = re.findall(r"<->|->|~=|[()&|=~?:]|\w+", text)
+    """Returns the function from a state to the outcome of such an expression."""
+    signs = re.findall(r"<->|->|~=|[()&|=~?:+-]|\w+", text)
     place = 0
 
     def part():
@@ -55,8 +85,8 @@ def value_of(text):
             return inner
         if sign == "~":
             inner = part()
-            return lambda s: 1 - inner(s)
-        if sign in "01":
+            return lambda s: negation(inner(s))
+        if sign.isdigit():
             return lambda s: int(sign)
         return lambda s: s[sign]
 
@@ -73,113 +103,96 @@ def value_of(text):
         yes = part()
         place += 1
         no = part()
-        return lambda s: yes(s) if left(s) else no(s)
+        return lambda s: {1: yes, 0: no, None: lambda s: None}[truth(left(s))](s)
 
     return whole()
 
 
 def right_side(names):
-    """Returns a right side as text, and the function from a state to the values that it allows."""
+    """Returns a right side as text, and the function from a state to the values that it allows: each, where it rules out nothing."""
     kind = random.random()
     if kind < 0.15:
         return "{0, 1}", lambda s: {0, 1}
     if kind < 0.4:
         condition, (yes, left), (no, other) = expression(1, names), right_side(names), right_side(names)
         holds = value_of(condition)
-        return f"({condition}) ? ({yes}) : ({no})", lambda s: left(s) if holds(s) else other(s)
+        return f"({condition}) ? ({yes}) : ({no})", lambda s: {1: left, 0: other, None: lambda s: {0, 1}}[truth(holds(s))](s)
     text = expression(2, names)
     value = value_of(text)
-    return text, lambda s: {value(s)}
+    return text, lambda s: {0, 1} if truth(value(s)) is None else {value(s)}
 
 
-def formula(depth):
-    """Returns a formula over several times as text, and the function from a state to what it asks of the next one: formulas' functions, or None where it is broken in this state."""
-    kind = random.random()
-    if depth == 0 or kind < 0.2:
-        text = expression(2, NAMES)
-        value = value_of(text)
-        return text, lambda s: [] if value(s) else None
-    if kind < 0.5:
-        text, asks = formula(depth - 1)
-        return f"X ({text})", lambda s: [asks]
-    if kind < 0.8:
-        condition, (text, asks) = expression(2, NAMES), formula(depth - 1)
-        holds = value_of(condition)
-        return f"if ({condition}) {text}", lambda s: asks(s) if holds(s) else []
-    first, second = expression(2, NAMES), expression(1, NAMES)
-    holds, ends = value_of(first), value_of(second)
+class Machine:
+    """Bits with what defines each: now by name; or at first and later, the latter under a condition."""
 
-    def unless(s):
-        return [] if ends(s) else [unless] if holds(s) else None
+    def __init__(self):
+        self.now, self.first, self.later, self.names = {}, {}, {}, []
 
-    return f"W ({first}, {second})", unless
-
-
-def design(formulas=False):
-    """Returns a text, the test of a first state, that of a step, and that of the claim; or what its formula asks."""
-    text = "module main() { " + " ".join(f"{name} : boolean;" for name in NAMES)
-    now, first, later = {}, {}, {}
-    order = random.sample(NAMES, len(NAMES))
-    for place, name in enumerate(order):
-        kind = random.random()
+    def define(self, name, earlier, known):
+        """Returns statements that define one more bit, by some that come earlier and, one step later, by those that are known."""
+        self.names.append(name)
+        kind, text = random.random(), ""
         if kind < 0.3:
-            side, now[name] = right_side(order[:place])
+            side, self.now[name] = right_side(earlier)
             text += f" {name} := {side};"
         elif kind < 0.9:
             if random.random() < 0.8:
-                side, first[name] = right_side(order[:place])
+                side, self.first[name] = right_side(earlier)
                 text += f" init({name}) := {side};"
             if random.random() < 0.9:
-                side, gives = right_side(NAMES)
-                condition = expression(1, NAMES) if random.random() < 0.3 else "1"
-                later[name] = value_of(condition), gives
+                side, gives = right_side(known)
+                condition = expression(1, known) if random.random() < 0.3 else "1"
+                self.later[name] = value_of(condition), gives
                 text += f" if ({condition}) next({name}) := {side};"
-    if formulas:
-        claim, asks = formula(4)
-        text += f" p : assert G {claim}; }}"
-    else:
-        claim = expression(3, NAMES)
-        text += f" p : assert G ({claim}); }}"
+        return text
 
-    def fits(s):
-        return all(s[name] in gives(s) for name, gives in now.items())
+    def follow(self, name, text):
+        """Has a bit that is the value of an expression."""
+        self.names.append(name)
+        value = value_of(text)
+        self.now[name] = lambda s: {0, 1} if truth(value(s)) is None else {value(s)}
 
-    def begins(s):
-        return fits(s) and all(s[name] in gives(s) for name, gives in first.items())
+    def states(self):
+        """The states in which each bit has a value that is allowed now."""
+        every = (dict(zip(self.names, bits)) for bits in itertools.product((0, 1), repeat=len(self.names)))
+        return [s for s in every if all(s[name] in gives(s) for name, gives in self.now.items())]
 
-    def follows(s, t):
-        # Where no assignment is made to a signal with a `next`, it keeps its value.
-        return fits(t) and all(t[name] in gives(s) if holds(s) else t[name] == s[name] for name, (holds, gives) in later.items())
+    def begins(self, s):
+        return all(s[name] in gives(s) for name, gives in self.first.items())
 
-    return text, begins, follows, asks if formulas else value_of(claim)
+    def follows(self, s, t):
+        # Where no assignment is made to a signal with a `next`, it keeps its value; where it cannot be told, it may have any.
+        for name, (holds, gives) in self.later.items():
+            assigned = truth(holds(s))
+            if assigned is not None and t[name] not in (gives(s) if assigned else {s[name]}):
+                return False
+        return True
+
+    def runs(self):
+        """The states, the places among them of first ones, and the places of those that follow each."""
+        states = self.states()
+        first = [place for place, s in enumerate(states) if self.begins(s)]
+        return states, first, [[place for place, t in enumerate(states) if self.follows(s, t)] for s in states]
 
 
-def by_brute_force(begins, follows, claim):
-    states = [dict(zip(NAMES, bits)) for bits in itertools.product((0, 1), repeat=len(NAMES))]
-    seen, ring, time = [], [s for s in states if begins(s)], 0
+def design():
+    """Returns a text of three bits, the machine that it is, and the value of its claim."""
+    machine, order = Machine(), random.sample(NAMES, len(NAMES))
+    text = "module main() { " + " ".join(f"{name} : boolean;" for name in NAMES)
+    text += "".join(machine.define(name, order[:place], NAMES) for place, name in enumerate(order))
+    claim = expression(3, NAMES)
+    return text + f" p : assert G ({claim}); }}", machine, value_of(claim)
+
+
+def by_brute_force(machine, claim):
+    """The verdict of an expression that holds at each time."""
+    states, ring, follow = machine.runs()
+    seen, time = set(), 0
     while ring:
-        if not all(claim(s) for s in ring):
+        if not all(claim(states[place]) == 1 for place in ring):
             return f"false at {time}"
-        seen += ring
-        ring = [t for t in states if t not in seen and any(follows(s, t) for s in ring)]
-        time += 1
-    return "true"
-
-
-def along_runs(begins, follows, asks):
-    """The verdict of a formula that holds at each time: states are gone through with what was asked of them before."""
-    states = [dict(zip(NAMES, bits)) for bits in itertools.product((0, 1), repeat=len(NAMES))]
-    seen, ring, time = set(), {(place, frozenset()) for place, s in enumerate(states) if begins(s)}, 0
-    while ring:
-        later = set()
-        for place, due in ring:
-            more = [one(states[place]) for one in [*due, asks]]
-            if None in more:
-                return f"false at {time}"
-            asked = frozenset(one for some in more for one in some)
-            later |= {(other, asked) for other, t in enumerate(states) if follows(states[place], t)}
-        seen |= ring
-        ring, time = later - seen, time + 1
+        seen |= set(ring)
+        ring, time = {other for place in ring for other in follow[place]} - seen, time + 1
     return "true"
 
 
@@ -205,7 +218,7 @@ def bit_value(depth, known):
     if kind < 0.3:
         return f"~({bit_value(depth - 1, known)})"
     if kind < 0.55:
-        return f"({bit_value(depth - 1, known)} {random.choice(list(SIGNS))} {bit_value(depth - 1, known)})"
+        return f"({bit_value(depth - 1, known)} {random.choice(LOGIC)} {bit_value(depth - 1, known)})"
     if kind < 0.75:
         return f"({number_value(depth - 1, known)} {random.choice(['=', '~=', '<', '<=', '>'])} {number_value(depth - 1, known)})"
     if kind < 0.85 and all(name in known for name in BITS[3:]):
@@ -252,14 +265,18 @@ def wide_design():
     return text + f"  p : assert G ({bit_value(3, names)});\n  q : assert G ({bit_value(3, names)});\n}}\n"
 
 
+def answered(program, command, words, text):
+    """What a run writes, or its first line where the text is refused."""
+    run = subprocess.run([program, command, *words.split()], input=text.encode(), capture_output=True)
+    if run.returncode not in (0, 1, 2, 3):
+        sys.exit(f"{text}\nstatus {run.returncode} under '{words}'")
+    return run.returncode, run.stdout.decode()
+
+
 def verdicts(program, command, words, text):
     """The verdict of each unit that a run tells, or none where the text is refused."""
-    run = subprocess.run([program, command, *words.split()], input=text.encode(), capture_output=True)
-    if run.returncode == 3:
-        return None
-    if run.returncode not in (0, 1, 2):
-        sys.exit(f"{text}\nstatus {run.returncode} under '{words}'")
-    return dict(re.findall(r"^(\w+): (true|false at \d+|unknown)", run.stdout.decode(), re.MULTILINE))
+    status, told = answered(program, command, words, text)
+    return None if status == 3 else dict(re.findall(r"^([\w.]+): (true|false at \d+|unknown)", told, re.MULTILINE))
 
 
 def compare(text, answers):
@@ -280,17 +297,19 @@ def main():
     words.add_argument("--formulas", action="store_true")
     asked = words.parse_args()
     random.seed(asked.seed)
+    if asked.formulas:
+        import formula_designs
+
+        return formula_designs.compared(asked.program, asked.count, asked.words)
     compared, told = 0, [0] * len(asked.words)
     for _ in range(asked.count):
-        text, *tests = (wide_design(),) if asked.wide else design(asked.formulas)
-        command = "ltl" if asked.formulas else "prove"
-        answers = [(setting, verdicts(asked.program, command, setting, text)) for setting in asked.words]
+        text, *tests = (wide_design(),) if asked.wide else design()
+        answers = [(setting, verdicts(asked.program, "prove", setting, text)) for setting in asked.words]
         if answers[0][1] is None:
             continue
         compared += 1
         told = [count + sum(verdict != "unknown" for verdict in found.values()) for count, (_, found) in zip(told, answers)]
-        force = along_runs if asked.formulas else by_brute_force
-        compare(text, answers if asked.wide else [*answers, ("brute force", {"p": force(*tests)})])
+        compare(text, answers if asked.wide else [*answers, ("brute force", {"p": by_brute_force(*tests)})])
     counts = ", ".join(f"{count} claims decided" + (f" under '{setting}'" if setting else "") for setting, count in zip(asked.words, told))
     print(f"{compared} designs compared, {asked.count - compared} refused; {counts}")
 

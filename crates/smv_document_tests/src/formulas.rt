@@ -48,6 +48,40 @@ const FORMULAS: &[Row] = &[
         1,
         "p: false at 1\n case #0\n time 0: m0[#0] = 1, m1[#0] = 0\n time 1: m0[#0] = 0, m1[#0] = 1\nproved 0 of 1\n",
     ),
+    // Each instance of a module has its monitors; those of `main` have the next names.
+    (
+        "ltl",
+        "module m(e) { input e : boolean; p : assert G if (e) X (e); } module main() { x : boolean; one : m(x); two : m(1); q : assert G X (x); }",
+        1,
+        "one.p: false at 1\n time 0: x = 1, one.e = 1, one.m0 = 0\n time 1: x = 0, one.e = 0, one.m0 = 1\ntwo.p: true\nq: false at 1\n time 0: x = 0, m1 = 0\n time 1: x = 0, m1 = 1\nproved 1 of 3\n",
+    ),
+    // A formula is split as any claim: by the time at which its last part is due.
+    (
+        "ltl",
+        "module main() { x : 0..2; init(x) := 0; next(x) := (x + 1) mod 3; p : assert G if (x = 0) X (x = 2); forall (k in 0..2) subcase s[k] of p for x = k; }",
+        1,
+        "p: false at 1\n case 1\n time 0: x = 0, m0 = 0\n time 1: x = 1, m0 = 1\nproved 0 of 1\n",
+    ),
+    // What is Undefined puts no condition out.
+    (
+        "ltl",
+        "module main() { x : boolean; p : assert G if (1 - 2) X (x | ~x); q : assert G if (1 - 2) X (x); }",
+        1,
+        "p: true\nq: false at 1\n time 0: x = 0, m1 = 0\n time 1: x = 0, m1 = 1\nproved 1 of 2\n",
+    ),
+    // Budgets.
+    (
+        "ltl --steps 1",
+        TOGGLE,
+        2,
+        "p: unknown steps\nproved 0 of 1\n",
+    ),
+    (
+        "ltl --nodes 1",
+        TOGGLE,
+        2,
+        "p: unknown nodes 2\nproved 0 of 1\n",
+    ),
     // Eight X are as many as a formula may have.
     (
         "ltl",
@@ -94,6 +128,32 @@ const FORMULAS: &[Row] = &[
         "module main() { x : boolean; p : assert G X (x); y := 1; }",
         3,
         "fault 7 at line 1 column 50\n",
+    ),
+    // Lines, columns and comments are those of the text that was read, also behind what is written for formulas.
+    (
+        "ltl",
+        "module main() {\r\n  x : boolean; -- } X (\r\n  p : assert /* ; */ G if (x) X (y);\r\n}",
+        3,
+        "fault 7 at line 3 column 3\n",
+    ),
+    (
+        "ltl",
+        "module main() { x : boolean; p : assert G X (x); n : m(x); } module m(e) { input e : boolean; z := 1; }",
+        3,
+        "fault 7 at line 1 column 95\n",
+    ),
+    // Faults of the translated text alone: a monitor is an array over the parameters of its claim, and a condition stands deeper in it.
+    (
+        "ltl",
+        "typedef T 0..1; module main() { forall (i in T) forall (j in T) forall (k in T) forall (l in T) forall (n in T) p[i][j][k][l][n] : assert G X (1); }",
+        3,
+        "fault 25 at line 1 column 24\n",
+    ),
+    (
+        "ltl",
+        "module main() { p : assert G if (((((((((((((((((((((((((((((((((((((((((((((((((((((((((((((1))))))))))))))))))))))))))))))))))))))))))))))))))))))))))))) X (1); }",
+        3,
+        "fault 6 at line 1 column 17\n",
     ),
     // Words.
     (
