@@ -1,0 +1,5 @@
+pub mod Claims
+pub mod Standing
+pub mod Tokens
+pub mod Refusals
+pub mod Edits
