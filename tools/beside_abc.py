@@ -61,6 +61,8 @@ def compare(asked, text):
         folder = pathlib.Path(made)
         os.environ["SMV_LOOK"] = asked.look
         run([TOOLS / "sets.sh", "list", text, folder])
+        # A text that is refused has no cases.
+        (folder / "cases").touch()
         lines, sought, _ = run([TOOLS / "with_abc.py", text, folder, "--told", "--look", asked.look, "--abc", asked.abc, "--seconds", str(asked.seconds)])
         engine, clauses, literals, size = clauses_of(lines)
         told, wrong, answer = told_by(folder), [], ""

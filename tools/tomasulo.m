@@ -1,5 +1,5 @@
 -- The machine of examples/tomasulo_fault.smv with its second map, for Rumur, an explicit-state checker with symmetry: what docs/MEASURED.md has beside `confirm`.
--- sed 's/WSIZE/3/; s/RSIZE/3/; s/TSIZE/3/' tools/tomasulo.m > t.m && rumur --output t.c t.m && gcc -O2 -mcx16 -std=c11 t.c -lpthread -latomic -o t && ./t --threads 1
+-- sed 's/WSIZE/3/; s/RSIZE/3/; s/TSIZE/3/' tools/tomasulo.m > t.m && rumur --threads 1 --output t.c t.m && gcc -O2 -mcx16 -std=c11 t.c -lpthread -latomic -o t && ./t
 -- The first rules give the registers and the function any contents; what the machine will not read is undefined. `st.ta` is left out: no station reads it, which is the fault.
 type WORD : scalarset(WSIZE); REG : scalarset(RSIZE); TAG : scalarset(TSIZE);
 var
