@@ -1,5 +1,5 @@
 -- The machine of examples/pipeline_fault.smv with its first map, for Rumur, an explicit-state checker with symmetry: what docs/MEASURED.md has beside `confirm`.
--- sed 's/RSIZE/3/; s/WSIZE/3/' tools/pipeline.m > p.m && rumur --output p.c p.m && gcc -O2 -mcx16 -std=c11 p.c -lpthread -latomic -o p && ./p --threads 1
+-- sed 's/RSIZE/3/; s/WSIZE/3/' tools/pipeline.m > p.m && rumur --threads 1 --output p.c p.m && gcc -O2 -mcx16 -std=c11 p.c -lpthread -latomic -o p && ./p
 -- The first rules give the registers and the function any contents. Mended, `opa` has one line more: if wbv & wbd = src then return wbw; endif;
 type REG : scalarset(RSIZE); WORD : scalarset(WSIZE);
 var

@@ -1,16 +1,18 @@
 #!/usr/bin/env python3
 """Seeks the sets of a text's cases by another engine, Berkeley ABC's `pdr`.
 
-    tools/with_abc.py TEXT FOLDER [LINE ..] [--look smv_look] [--abc berkeley-abc] [--seconds 60]
+    tools/with_abc.py TEXT FOLDER [LINE ..] [--look smv_look] [--abc berkeley-abc] [--seconds 60] [--told]
 
 FOLDER is one that `tools/sets.sh list TEXT FOLDER` made: its file `cases` has a case on each line. Each case, or those on the LINEs that are given, is written as a circuit (`smv_look aiger`) and handed over.
 Where the engine finds an invariant, FOLDER/N.set gets it as the lines that a proof document has of a set; where it finds a path, FOLDER/N.open gets the path as a report has it, a shortest one; and else the words
 `unknown seconds`. What is there and is newer than TEXT is not sought again. `tools/sets.sh join TEXT FOLDER` makes the document, which `check` judges: nothing that is done here has to be believed.
+With --told it prints a line for each case that it seeks: the processor seconds of ABC alone, and of the clauses of the invariant how many there are, their literals, and the bytes of them as lines of numbers.
 It ends as `tools/sets.sh one` does: with status 0 where each case has its set, 1 where one is false, 2 where one is unknown.
 """
 import argparse
 import pathlib
 import re
+import resource
 import subprocess
 import sys
 import tempfile
@@ -98,11 +100,16 @@ def cubes(text):
     return sorted(found, key=sorted)
 
 
-def set_lines(name, case, invariant):
-    """The lines of the set of an invariant."""
+def set_lines(name, case, excluded):
+    """The lines of the set of the states outside these cubes."""
     diagrams = Diagrams()
-    root, lines = diagrams.lines(diagrams.all_of([diagrams.clause(cube) for cube in cubes(invariant)]))
+    root, lines = diagrams.lines(diagrams.all_of([diagrams.clause(cube) for cube in excluded]))
     return f"set {name} {case - 1} {root} {len(lines)}\n" + "".join(lines)
+
+
+def clause_lines(excluded):
+    """A line for each clause: its literals, each the number of a variable, and one more where it is negated."""
+    return [" ".join(str(2 * bit + cube[bit]) for bit in sorted(cube)) + "\n" for cube in excluded]
 
 
 def states(text):
@@ -136,23 +143,39 @@ def path_lines(name, comment, widths, frames):
     return shown
 
 
+def processor_seconds():
+    """What all programs took that were called so far."""
+    usage = resource.getrusage(resource.RUSAGE_CHILDREN)
+    return usage.ru_utime + usage.ru_stime
+
+
 class Engine:
     """The programs that are called, and how long each call of ABC may take."""
 
     def __init__(self, asked):
         self.asked = asked
+        self.took = 0.0
+        self.excluded = []
 
     def look(self, *words):
         return subprocess.run([self.asked.look, *words], input=self.asked.text.read_bytes(), capture_output=True, check=True).stdout
 
     def abc(self, circuit, *words):
         """What ABC says, with a little time beyond what it was given."""
-        call = "; ".join([f"read_aiger {circuit}", *words])
+        call, before = "; ".join([f"read_aiger {circuit}", *words]), processor_seconds()
         try:
             ran = subprocess.run([self.asked.abc, "-q", call], capture_output=True, timeout=self.asked.seconds + 20)
         except subprocess.TimeoutExpired:
             return ""
+        finally:
+            self.took += processor_seconds() - before
         return ran.stdout.decode(errors="replace")
+
+    def told(self, name, case):
+        """What a case took, and what its clauses come to."""
+        lines = clause_lines(self.excluded)
+        literals = sum(map(len, self.excluded))
+        return f"{name} {case}: {self.took:.2f} s, {len(lines)} clauses, {literals} literals, {sum(map(len, lines))} bytes"
 
     def sought(self, name, case, made):
         """The lines of a set under status 0, or those of what is open under 1 or 2."""
@@ -160,7 +183,8 @@ class Engine:
         circuit.write_bytes(self.look("aiger", name, str(case)))
         said = self.abc(circuit, "dc2", "dc2", f"pdr -d -I {made}/case.pla -T {seconds}")
         if "Property proved" in said:
-            return 0, set_lines(name, case, (made / "case.pla").read_text())
+            self.excluded = cubes((made / "case.pla").read_text())
+            return 0, set_lines(name, case, self.excluded)
         found = re.search(r"was asserted in frame (\d+)", said)
         path = self.path(name, case, circuit, int(found[1]), made) if found else None
         return (1, path) if path else (2, f"{name}: unknown seconds {seconds}\n")
@@ -193,8 +217,11 @@ def one(asked, line, case):
     status = is_done(asked, line)
     if status is None:
         name, number = case.split()
+        engine = Engine(asked)
         with tempfile.TemporaryDirectory() as made:
-            status, lines = Engine(asked).sought(name, int(number), pathlib.Path(made))
+            status, lines = engine.sought(name, int(number), pathlib.Path(made))
+        if asked.told:
+            print(engine.told(name, int(number)), flush=True)
         part = asked.folder / f"{line}.part"
         part.write_text(lines)
         part.rename(asked.folder / f"{line}.{'open' if status else 'set'}")
@@ -209,6 +236,7 @@ def main():
     words.add_argument("--look", default="smv_look")
     words.add_argument("--abc", default="berkeley-abc")
     words.add_argument("--seconds", type=int, default=60)
+    words.add_argument("--told", action="store_true")
     asked = words.parse_intermixed_args()
     cases = (asked.folder / "cases").read_text().splitlines()
     told = {one(asked, line, cases[line - 1]) for line in asked.lines or range(1, len(cases) + 1)}
