@@ -39,6 +39,13 @@ found-is (e ∷ es) at = by (nat_eq e.at at) (found-is es at)
     by true h = refl
     by false h = h ∙ of_rest (place_in 0 es at) ∙ ap (λ o. option_and_then (λ i. option_map (λ (e : Entry). watched_of e.watched) (slice_get (e ∷ es) i)) o) (sym (shifted 0 es at))
 
+module _ (es : List Entry) (at : ℕ) where
+  pub found-at : (place : ℕ) → place_in 0 es at ≡ Some place → option_map (λ (e : Entry). watched_of e.watched) (slice_get es place) ≡ at_place (map entry_of es) at
+  found-at place e = sym (found-is es at ∙ ap (λ (o : Option ℕ). option_and_then (λ i. option_map (λ (x : Entry). watched_of x.watched) (slice_get es i)) o) e)
+
+  pub found-nowhere : place_in 0 es at ≡ None → None ≡ at_place (map entry_of es) at
+  found-nowhere e = sym (found-is es at ∙ ap (λ (o : Option ℕ). option_and_then (λ i. option_map (λ (x : Entry). watched_of x.watched) (slice_get es i)) o) e)
+
 -- one entry more is noted
 module _ (before after : ℕ → Option ℕ) (es : List Entry) (n : ℕ) (e : Entry) where
   pub noted-more : n < length es → e ≡ get_or es n e → ((q : ℕ) → after q ≡ found_or (before q) (nat_eq e.at q) n) → ((q : ℕ) → option_or (before q) (place_in n (drop n es) q) ≡ place_in 0 es q) →
