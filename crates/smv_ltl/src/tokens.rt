@@ -72,7 +72,7 @@ pub fn from_place(tokens: &[Token], at: u32) -> &[Token]
 
 // The tokens that stand before an offset.
 #[tactic(auto, using(crate::proofs::TokenLaws::taken_before))]
-fn before(tokens: &[Token], at: u32) -> &[Token]
+fn tokens_before(tokens: &[Token], at: u32) -> &[Token]
     requires rises { Rises tokens.now }
     ensures { result.now ≡ take_while (λ t. nat_lt t.at at) tokens.now }
 {
@@ -97,7 +97,7 @@ fn before_top<'a>(tokens: &'a [Token], tops: &[Top]) -> &'a [Token]
 {
     match tops {
         [] => tokens,
-        [top, ..] => before(tokens, place_of(top)),
+        [top, ..] => tokens_before(tokens, place_of(top)),
     }
 }
 
