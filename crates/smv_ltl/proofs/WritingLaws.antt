@@ -1,14 +1,13 @@
 -- What is written, and where it becomes too long.
-use Rattle.std.proofs.Common.{◌≡◌, ◌≤◌, ◌<◌, ◌+◌, ◌-◌, ℕ, suc, List, [], ◌∷◌, ◌++◌, length, map, take, drop, refl, sym, ap, ◌∙◌, subst, append_assoc, Result, Ok, Err, arith}
-use Rattle.std.proofs.lemmas.List.{length-append, length-map, take_all, length-drop, length-take-le}
+use Rattle.std.proofs.Common.{◌≡◌, ◌+◌, ◌-◌, ℕ, suc, List, [], ◌∷◌, ◌++◌, length, drop, refl, sym, ap, ◌∙◌, subst, append_assoc, Result, Ok, Err, arith}
+use Rattle.std.proofs.lemmas.List.{length-append, length-map, take_all, length-drop}
 use Rattle.smv_core.specs.declared.fault.Fault.{Fault}
 use Rattle.smv_core.specs.declared.fault.Refusal.{Refusal}
 use Rattle.smv_core.specs.declared.fault.Refusal.TheVariants as refusal
 use Rattle.smv_lex.specs.Answers.{IfFault}
 use Rattle.law_strengthened_claims.specs.Renaming.{between}
-use Rattle.law_translated_texts.specs.Answers.{limit}
 use Rattle.law_translated_texts.specs.Translation.{Placed, Edit, placed_at, placed_from, edited}
-use Rattle.smv_ltl.specs.Writing.{IsOver, IsTooLong, GoesOn, IsTooLongWith}
+use Rattle.smv_ltl.specs.Writing.{IsTooLong, GoesOn, IsTooLongWith}
 
 pub placed-length : (from : ℕ) (bytes : List ℕ) → length (placed_from from bytes) ≡ length bytes
 placed-length from [] = refl

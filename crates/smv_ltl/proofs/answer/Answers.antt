@@ -1,4 +1,4 @@
-use Rattle.std.proofs.Common.{◌<◌, ◌≤◌, List, ℕ, length, sym, subst, arith}
+use Rattle.std.proofs.Common.{◌<◌, ◌≤◌, length, sym, subst, arith}
 use Rattle.smv_core.specs.Notation.{Tokens}
 use Rattle.law_translated_texts.specs.Answers.{limit, IsRefused}
 use Rattle.smv_parse_formula_texts.specs.Spelling.{SpellsText, HasFault}

@@ -1,4 +1,4 @@
-use Rattle.std.proofs.Common.{List, [], ◌∷◌, ◌++◌, sym, ◌∙◌, subst}
+use Rattle.std.proofs.Common.{List, ◌++◌, sym, ◌∙◌, subst}
 use Rattle.law_strengthened_claims.specs.Renaming.{between}
 use Rattle.law_translated_texts.specs.Translation.{Edit, placed_from}
 use Rattle.smv_ltl.specs.Edits.{monitors_from, layer_edits}
