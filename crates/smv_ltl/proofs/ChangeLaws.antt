@@ -10,11 +10,11 @@ use Rattle.smv_core.specs.declared.tree.Stmt.{Stmt}
 use Rattle.smv_core.specs.declared.tree.Pair.{Pair}
 use Rattle.smv_core.specs.declared.tree.Ref.{Ref}
 use Rattle.smv_core.specs.declared.tree.Use.{Use}
-use Rattle.smv_core.specs.declared.tree.Item.{Item, Declare, Instance, Layer, Forall, Forall', Block, Block', Claim, Split, Using, Act, Row_of-Item, end_of-Item, more_of-Item, items-the_row-Item, items_hidden-the_row-Item-1}
+use Rattle.smv_core.specs.declared.tree.Item.{Item, Declare, Instance, Layer, Forall, Block, Block', Split, Using, Act, Row_of-Item, end_of-Item, more_of-Item, items-the_row-Item, items_hidden-the_row-Item-1}
 use mathlib.Core.Former.{Count}
 use Rattle.smv_mentions.proofs.Computing.{computing}
 use Rattle.law_formulas.specs.Monitors.{Around, Watched}
-use Rattle.law_translated_texts.specs.Translation.{Changed, changed_in, changed_among}
+use Rattle.law_translated_texts.specs.Translation.{changed_in, changed_among}
 
 module _ (plan : List (ℕ × Watched)) (around : Around) where
   items-row : (n : _) (row : Row_of-Item n) → changed_among plan around row ≡ flat_map (changed_in plan around) (items-the_row-Item n row)

@@ -1,11 +1,10 @@
 -- What the edits of a text are made of, as it is written.
-use Rattle.std.proofs.Common.{◌≡◌, ◌<◌, ◌≤◌, ◌+◌, ◌==◌, ℕ, List, [], ◌∷◌, ◌++◌, length, map, drop, filter, codes, get_or, Bool, true, false, cond, if◌then◌else◌, nat_lt, Option, Some, None, refl, sym, ap, ◌∙◌, subst, append_assoc, arith}
+use Rattle.std.proofs.Common.{◌≡◌, ◌<◌, ◌≤◌, ◌+◌, ◌==◌, ℕ, List, [], ◌∷◌, ◌++◌, length, map, drop, filter, codes, get_or, Bool, true, false, cond, if◌then◌else◌, nat_lt, Some, None, refl, sym, ap, ◌∙◌, subst, append_assoc, arith}
 use Rattle.std.specs.List.{AllByRecursion, flat_map}
 use Rattle.std.proofs.lemmas.Bool.Decides.{nat_tests}
 use Rattle.std.proofs.lemmas.List.{at_drop_more, drop_all, map-append}
 use Rattle.smv_core.specs.declared.fault.Fault.{Fault}
 use Rattle.smv_core.specs.Values.{Name}
-use Rattle.smv_core.specs.declared.token.Token.{Token}
 use Rattle.smv_core.specs.Notation.{Tokens}
 use Rattle.smv_core.specs.declared.tree.Item.{Item}
 use Rattle.smv_core.specs.declared.tree.Top.{Top}
@@ -78,7 +77,7 @@ claim-written text ts c tokens bs f stop to first second third is b p s t e k h 
 
 -- an edit up to an offset, whose bytes were made before
 module _ (text : List ℕ) (e : Edit) (from to : ℕ) (old : Placed) where
-  pub one-edit-by : (mid new bytes : Placed) → to ≡ e.to → bytes ≡ e.written → mid ≡ old ++ placed_from from (between text e.from) → new ≡ mid ++ bytes → GoesOn text (e ∷ []) from old to new
+  pub one-edit-by : (mid new bytes : Placed) → to ≡ e.to → bytes ≡ e.written → mid ≡ old ++ placed_from from (between text from e.from) → new ≡ mid ++ bytes → GoesOn text (e ∷ []) from old to new
   one-edit-by mid new bytes t b m n = subst (λ (k : ℕ). GoesOn text (e ∷ []) from old k new) (sym t) (one-edit text e from old mid new m (n ∙ ap (λ (l : Placed). mid ++ l) b))
 
 -- ---- the loops
@@ -139,11 +138,11 @@ undefined vars stage (Weak p q) = refl
 module _ (f : law.Changed → Placed) (idle : (d : law.Changed) → has_monitors d ≡ false → f d ≡ []) where
   of-watched : (ds : List law.Changed) → flat_map f (filter has_monitors ds) ≡ flat_map f ds
   of-watched [] = refl
-  of-watched (d ∷ ds) = by (has_monitors d) refl
+  of-watched (d ∷ ds) = by (has_monitors d) refl (of-watched ds)
     where
-      by : (b : Bool) → has_monitors d ≡ b → flat_map f (cond b (d ∷ filter has_monitors ds) (filter has_monitors ds)) ≡ f d ++ flat_map f ds
-      by true e = ap (λ (l : Placed). f d ++ l) (of-watched ds)
-      by false e = of-watched ds ∙ ap (λ (l : Placed). l ++ flat_map f ds) (sym (idle d e))
+      by : (b : Bool) → has_monitors d ≡ b → flat_map f (filter has_monitors ds) ≡ flat_map f ds → flat_map f (cond b (d ∷ filter has_monitors ds) (filter has_monitors ds)) ≡ f d ++ flat_map f ds
+      by true e more = ap (λ (l : Placed). f d ++ l) more
+      by false e more = more ∙ ap (λ (l : Placed). l ++ flat_map f ds) (sym (idle d e))
 
 -- the first that has monitors, and the others
 record First (ds : List law.Changed) (name : ℕ) : Type 0 where

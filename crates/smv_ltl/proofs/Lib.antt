@@ -7,3 +7,4 @@ mod PlanLaws
 mod TokenLaws
 mod WritingLaws
 mod PhraseLaws
+mod ExitLaws

@@ -1,14 +1,20 @@
 -- The first free names, one by one.
 use Rattle.std.proofs.Common.{◌≡◌, ◌<◌, ◌≤◌, ◌+◌, ◌-◌, ℕ, zero, suc, List, [], ◌∷◌, ◌++◌, length, take, not, Bool, true, false, cond, ◌||◌, is_some, refl, sym, ap, ◌∙◌, append_assoc, arith}
-use Rattle.std.specs.List.{list_any}
+use Rattle.std.specs.List.{list_any, filter, count_by}
 use Rattle.std.specs.Str.{bytes_eq}
 use Rattle.std.proofs.lemmas.List.{append-nil, length-append}
+use Rattle.std.proofs.lemmas.List.Sums.{length-filter}
 use Rattle.std.proofs.lemmas.Slice.Eq.{bytes_eq-Decides}
 use Rattle.smv_core.specs.Values.{Name}
+use Rattle.smv_core.specs.Notation.{Tokens}
+use Rattle.smv_core.specs.declared.token.Token.{Token}
+use Rattle.smv_core.specs.declared.token.TokenKind.{TokenKind}
+use Rattle.smv_core.specs.declared.token.TokenKind.TheVariants.{Ident, Number, Sign, Reserved}
+use Rattle.law_formula_texts.specs.Laws.{name_in, names_of}
 use Rattle.law_formulas.specs.Monitors.{numbered}
 use Rattle.name_index.specs.Position.{position}
 use Rattle.name_index.proofs.Finding.{position-known}
-use Rattle.smv_ltl.specs.Names.{free_from}
+use Rattle.smv_ltl.specs.Names.{free_from, is_name}
 
 bytes_eq-sym : (x y : Name) → bytes_eq x y ≡ bytes_eq y x
 bytes_eq-sym x y = by (bytes_eq x y) (bytes_eq y x) refl refl
@@ -25,6 +31,23 @@ turned (x ∷ names) name = rw (bytes_eq-sym x name) (ap (λ b. bytes_eq name x 
 
 pub used_is : (names : List Name) (name : Name) → is_some (position names name) ≡ list_any (bytes_eq name) names
 used_is names name = position-known names name ∙ turned names name
+
+abbrev is_named : Token → Bool
+is_named t = is_name t.kind
+
+names-kept : (ts : Tokens) → length (filter is_named ts) ≡ length (names_of ts)
+names-kept [] = refl
+names-kept (t ∷ ts) = by t.kind (names-kept ts)
+  where
+    by : (k : TokenKind) → length (filter is_named ts) ≡ length (names_of ts) → length (cond (is_name k) (t ∷ filter is_named ts) (filter is_named ts)) ≡ length (name_in k ++ names_of ts)
+    by (Ident name) h = ap suc h
+    by (Number n) h = h
+    by (Sign place) h = h
+    by (Reserved place) h = h
+
+-- as many tokens are names as there are names
+pub counted : (ts : Tokens) → count_by (λ (t : Token). is_name t.kind) ts ≡ length (names_of ts)
+counted ts = sym (length-filter is_named ts) ∙ names-kept ts
 
 module _ (used : List Name) where
   abbrev is_free : Name → Bool
@@ -84,6 +107,19 @@ module _ (used : List Name) where
       let none : bound - k ≡ 0 = omega (arith, le) in
       ap (λ (n : ℕ). names ++ take count (free_from used k n)) none ∙ ap (λ (l : List Name). names ++ l) (take-none count) ∙ append-nil names
 
+  one-long : (k : ℕ) → length (free_from used k 1) ≤ 1
+  one-long k = by (is_free (numbered k)) refl
+    where
+      by : (b : Bool) → is_free (numbered k) ≡ b → length (free_from used k 1) ≤ 1
+      by true e = let h = ap (λ (l : List Name). length l) (one-is k true e) in omega (arith, h)
+      by false e = let h = ap (λ (l : List Name). length l) (one-is k false e) in omega (arith, h)
+
+  -- one name further, there are no more than are wanted
+  pub still_fits : (count k : ℕ) (old new : List Name) → length old < count → new ≡ old ++ free_from used k 1 → length new ≤ count
+  still_fits count k old new room n =
+      let long : length new ≡ length old + length (free_from used k 1) = ap (λ (l : List Name). length l) n ∙ length-append old (free_from used k 1) in
+      omega (arith, room, long, one-long k)
+
   -- none is wanted any more
   pub enough : (count k n : ℕ) (names : List Name) → length names ≡ count → names ++ take (count - length names) (free_from used k n) ≡ names
   enough count k n names e =
@@ -92,4 +128,4 @@ module _ (used : List Name) where
 
 pub ruleset alone = (alone_used, alone_free)
 
-pub ruleset stepping = (step, ended, enough)
+pub ruleset stepping = (ended, enough)

@@ -1,5 +1,5 @@
 -- Where an offset stands in a plan.
-use Rattle.std.proofs.Common.{◌≡◌, ◌<◌, ◌≤◌, ◌+◌, ℕ, suc, List, [], ◌∷◌, ◌++◌, length, map, take, drop, get_or, append_assoc, Bool, true, false, if◌then◌else◌, cond, nat_eq, Option, Some, None, refl, sym, ap, ◌∙◌, arith}
+use Rattle.std.proofs.Common.{◌≡◌, ◌<◌, ◌≤◌, ◌+◌, ℕ, suc, List, [], ◌∷◌, ◌++◌, length, map, take, drop, get_or, append_assoc, Bool, true, false, if◌then◌else◌, nat_eq, Option, Some, None, refl, sym, ap, ◌∙◌, arith}
 use Rattle.std.specs.Prelude.{option_map, option_and_then, slice_get}
 use Rattle.std.specs.Option.{option_or}
 use Rattle.std.proofs.lemmas.List.{at_drop_more, drop_all, drop_min, take_min, map-append}
@@ -38,6 +38,13 @@ found-is (e ∷ es) at = by (nat_eq e.at at) (found-is es at)
         (if b then Some (watched_of e.watched) else at_place (map entry_of es) at) ≡ option_and_then (λ i. option_map (λ (e : Entry). watched_of e.watched) (slice_get (e ∷ es) i)) (if b then Some 0 else place_in 1 es at)
     by true h = refl
     by false h = h ∙ of_rest (place_in 0 es at) ∙ ap (λ o. option_and_then (λ i. option_map (λ (e : Entry). watched_of e.watched) (slice_get (e ∷ es) i)) o) (sym (shifted 0 es at))
+
+module _ (es : List Entry) (at : ℕ) where
+  pub found-at : (place : ℕ) → place_in 0 es at ≡ Some place → option_map (λ (e : Entry). watched_of e.watched) (slice_get es place) ≡ at_place (map entry_of es) at
+  found-at place e = sym (found-is es at ∙ ap (λ (o : Option ℕ). option_and_then (λ i. option_map (λ (x : Entry). watched_of x.watched) (slice_get es i)) o) e)
+
+  pub found-nowhere : place_in 0 es at ≡ None → None ≡ at_place (map entry_of es) at
+  found-nowhere e = sym (found-is es at ∙ ap (λ (o : Option ℕ). option_and_then (λ i. option_map (λ (x : Entry). watched_of x.watched) (slice_get es i)) o) e)
 
 -- one entry more is noted
 module _ (before after : ℕ → Option ℕ) (es : List Entry) (n : ℕ) (e : Entry) where

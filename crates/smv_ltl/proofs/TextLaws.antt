@@ -1,5 +1,5 @@
 -- The translation, put together from what the pieces answer.
-use Rattle.std.proofs.Common.{◌≡◌, ◌<◌, ◌≤◌, ◌+◌, ℕ, List, [], ◌∷◌, ◌++◌, length, map, drop, Result, Ok, Err, IfOk, refl, sym, ap, ◌∙◌, subst, arith}
+use Rattle.std.proofs.Common.{◌≡◌, ◌<◌, ◌≤◌, ◌+◌, ℕ, List, [], ◌∷◌, ◌++◌, length, map, drop, Result, Ok, Err, IfOk, sym, ap, ◌∙◌, subst, arith}
 use Rattle.std.proofs.lemmas.List.{length-map}
 use Rattle.smv_core.specs.Values.{Name}
 use Rattle.smv_core.specs.declared.fault.Refusal.{Refusal}
@@ -13,7 +13,7 @@ use Rattle.smv_ltl.specs.declared.Translated.{Translated}
 use Rattle.law_formulas.specs.Formulas.{FormulaText}
 use Rattle.law_formulas.specs.Monitors.{Watched, watched, monitors_of, free_names, first_name, layer_of}
 use Rattle.law_formula_texts.specs.Laws.{names_of}
-use Rattle.law_translated_texts.specs.Answers.{limit, IsReadable, IsTranslated, IsRefused, of_bytes, unexpected, too_deep, too_long_translated}
+use Rattle.law_translated_texts.specs.Answers.{limit, IsReadable, IsTranslated, IsRefused, too_long, of_bytes, unexpected, too_deep, too_long_translated}
 use Rattle.law_translated_texts.specs.Translation.{Placed, Translation, translation_of, edited, edits, with_end}
 
 module _ (text : List ℕ) (ts : Tokens) (ft : FormulaText) where
@@ -62,3 +62,7 @@ pub faults-are : (text : List ℕ) → length text ≤ limit → (number at : �
 faults-are text le number at (read.of_bytes e) = of_bytes le e
 faults-are text le number at (read.unexpected e bad) = unexpected le e bad
 faults-are text le number at (read.too_deep e bad) = too_deep le e bad
+
+-- a text over the limit is refused at its front
+pub too-long-there : (text : List ℕ) → limit < length text → (r : Refusal) → r ≡ refusal.Fault (record { number = 31; at = 0 }) → IfFault {X = Translated} (Err r) (λ f. IsRefused text f.number f.at)
+too-long-there text long r e = subst (λ (z : Refusal). IfFault {X = Translated} (Err z) (λ f. IsRefused text f.number f.at)) (sym e) (too_long long)

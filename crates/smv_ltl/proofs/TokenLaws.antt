@@ -1,16 +1,18 @@
--- How many tokens stand before an offset.
-use Rattle.std.proofs.Common.{◌≡◌, ◌≤◌, ◌<◌, ◌==◌, ◌-◌, ℕ, zero, suc, List, [], ◌∷◌, ◌++◌, length, take, drop, take_while, Bool, true, false, cond, if◌then◌else◌, nat_lt, get_or, refl, sym, ap, ◌∙◌, arith}
+-- How many tokens stand before an offset, and where the last brace stands.
+use Rattle.std.proofs.Common.{◌≡◌, ◌≤◌, ◌<◌, ◌==◌, ◌-◌, ℕ, zero, suc, List, [], ◌∷◌, length, take, drop, take_while, Bool, true, false, cond, if◌then◌else◌, nat_lt, get_or, refl, sym, ap, ◌∙◌, arith}
 use Rattle.std.proofs.lemmas.Bool.Decides.{nat_tests}
 use Rattle.std.proofs.lemmas.List.{drop_all}
 use Rattle.std.proofs.lemmas.List.Sums.{take_while-cons}
 use Rattle.smv_core.specs.declared.token.Token.{Token}
+use Rattle.smv_core.specs.declared.tree.Top.{Top}
+use Rattle.smv_core.specs.declared.tree.Top.TheVariants.{SetType, Alias, Module}
 use Rattle.smv_core.specs.Notation.{Tokens, same_kind}
 use Rattle.smv_core.specs.Signs.{close_brace}
 use Rattle.smv_core.specs.Spelling.{place_of_rest}
 use Rattle.law_grammar.specs.Laws.{Rise}
 use Rattle.law_translated_texts.specs.Parts.{from_place}
-use Rattle.law_translated_texts.specs.Translation.{last_brace}
-use Rattle.smv_ltl.specs.Rising.{Rises, begins_at}
+use Rattle.law_translated_texts.specs.Translation.{last_brace, before_top}
+use Rattle.smv_ltl.specs.Rising.{Rises, begins_at, place_of}
 
 abbrev pub before : ℕ → Tokens → Tokens
 before at ts = take_while (λ (t : Token). nat_lt t.at at) ts
@@ -53,17 +55,17 @@ module _ (at : ℕ) where
   not-counted : (ts : Tokens) (i : ℕ) (d : Token) → i < length ts → at ≤ (get_or ts i d).at → length (before at ts) ≤ i
   not-counted [] i d lt more = absurd (omega (arith, lt))
   not-counted (t ∷ ts) zero d lt more = let l : at ≤ t.at = more in let e : nat_lt t.at at ≡ false = grind (arith, nat_tests) in omega (arith, no t ts e)
-  not-counted (t ∷ ts) (suc i) d lt more = by (nat_lt t.at at) refl
+  not-counted (t ∷ ts) (suc i) d lt more = by (nat_lt t.at at) refl (not-counted ts i d (omega (arith, lt)) more)
     where
-      by : (b : Bool) → nat_lt t.at at ≡ b → length (before at (t ∷ ts)) ≤ suc i
-      by true e = let h = not-counted ts i d (omega (arith, lt)) more in omega (arith, yes t ts e, h)
-      by false e = omega (arith, no t ts e)
+      by : (b : Bool) → nat_lt t.at at ≡ b → length (before at ts) ≤ i → length (before at (t ∷ ts)) ≤ suc i
+      by true e h = omega (arith, yes t ts e, h)
+      by false e h = omega (arith, no t ts e)
 
-  pub counted_there : (ts : Tokens) (i : ℕ) (t : Token) → Rises ts → t ≡ get_or ts i t → i < length ts → t.at < at → i < length (before at ts)
-  counted_there ts i t rises is lt less = let e : (get_or ts i t).at ≡ t.at = ap (λ (u : Token). u.at) (sym is) in counted rises.0 ts i t rises.1 lt (omega (arith, e, less))
+  pub counted_there : (ts : Tokens) (i : ℕ) (d : Token) → Rises ts → i < length ts → (get_or ts i d).at < at → i < length (before at ts)
+  counted_there ts i d rises lt less = counted rises.0 ts i d rises.1 lt less
 
-  pub not_counted_there : (ts : Tokens) (i : ℕ) (t : Token) → t ≡ get_or ts i t → i < length ts → at ≤ t.at → length (before at ts) ≤ i
-  not_counted_there ts i t is lt more = let e : (get_or ts i t).at ≡ t.at = ap (λ (u : Token). u.at) (sym is) in not-counted ts i t lt (omega (arith, e, more))
+  pub not_counted_there : (ts : Tokens) (i : ℕ) (d : Token) → i < length ts → at ≤ (get_or ts i d).at → length (before at ts) ≤ i
+  not_counted_there ts i d lt more = not-counted ts i d lt more
 
   -- ---- the token at an offset
 
@@ -77,17 +79,18 @@ module _ (at : ℕ) where
 
   from-place-is : (end : ℕ) (ts : Tokens) → Rise end ts → from_place at ts ≡ (if begins_at at (drop (length (before at ts)) ts) then drop (length (before at ts)) ts else [])
   from-place-is end [] rise = refl
-  from-place-is end (t ∷ ts) rise = by (nat_lt t.at at) refl
+  from-place-is end (t ∷ ts) rise = by (nat_lt t.at at) refl (from-place-is end ts rise.1)
     where
       not-less : (b : Bool) → (t.at == at) ≡ b → nat_lt t.at at ≡ false → (if b then t ∷ ts else from_place at ts) ≡ (if b then t ∷ ts else [])
       not-less true k e = refl
       not-less false k e = let l : at < t.at = grind (arith, nat_tests) in let r = rise.0 in none-later end ts rise.1 (omega (arith, l, r))
 
-      by : (b : Bool) → nat_lt t.at at ≡ b → from_place at (t ∷ ts) ≡ (if begins_at at (drop (length (before at (t ∷ ts))) (t ∷ ts)) then drop (length (before at (t ∷ ts))) (t ∷ ts) else [])
-      by true e =
+      by : (b : Bool) → nat_lt t.at at ≡ b → from_place at ts ≡ (if begins_at at (drop (length (before at ts)) ts) then drop (length (before at ts)) ts else []) →
+          from_place at (t ∷ ts) ≡ (if begins_at at (drop (length (before at (t ∷ ts))) (t ∷ ts)) then drop (length (before at (t ∷ ts))) (t ∷ ts) else [])
+      by true e h =
           let k : (t.at == at) ≡ false = grind (arith, nat_tests) in
-          ap (λ b. if b then t ∷ ts else from_place at ts) k ∙ from-place-is end ts rise.1 ∙ sym (ap (λ n. if begins_at at (drop n (t ∷ ts)) then drop n (t ∷ ts) else []) (yes t ts e))
-      by false e = not-less (t.at == at) refl e ∙ sym (ap (λ n. if begins_at at (drop n (t ∷ ts)) then drop n (t ∷ ts) else []) (no t ts e))
+          ap (λ b. if b then t ∷ ts else from_place at ts) k ∙ h ∙ sym (ap (λ n. if begins_at at (drop n (t ∷ ts)) then drop n (t ∷ ts) else []) (yes t ts e))
+      by false e h = not-less (t.at == at) refl e ∙ sym (ap (λ n. if begins_at at (drop n (t ∷ ts)) then drop n (t ∷ ts) else []) (no t ts e))
 
   where-found : (ts rest : Tokens) (n : ℕ) (b : Bool) → Rises ts → n ≡ length (before at ts) → rest ≡ drop n ts → begins_at at rest ≡ b → from_place at ts ≡ (if b then rest else [])
   where-found ts rest n b rises e k is =
@@ -102,12 +105,23 @@ module _ (at : ℕ) where
 
   pub taken_before : (ts : Tokens) → take (length (before at ts)) ts ≡ before at ts
   taken_before [] = refl
-  taken_before (t ∷ ts) = by (nat_lt t.at at) refl
+  taken_before (t ∷ ts) = by (nat_lt t.at at) refl (taken_before ts)
     where
-      by : (b : Bool) → nat_lt t.at at ≡ b → take (length (before at (t ∷ ts))) (t ∷ ts) ≡ before at (t ∷ ts)
-      by true e =
-          ap (λ n. take n (t ∷ ts)) (yes t ts e) ∙ ap (λ l. t ∷ l) (taken_before ts) ∙ sym (take_while-cons (λ (u : Token). nat_lt u.at at) t ts ∙ ap (λ c. cond c (t ∷ before at ts) []) e)
-      by false e = ap (λ n. take n (t ∷ ts)) (no t ts e) ∙ sym (take_while-cons (λ (u : Token). nat_lt u.at at) t ts ∙ ap (λ c. cond c (t ∷ before at ts) []) e)
+      by : (b : Bool) → nat_lt t.at at ≡ b → take (length (before at ts)) ts ≡ before at ts → take (length (before at (t ∷ ts))) (t ∷ ts) ≡ before at (t ∷ ts)
+      by true e h =
+          ap (λ n. take n (t ∷ ts)) (yes t ts e) ∙ ap (λ l. t ∷ l) h ∙ sym (take_while-cons (λ (u : Token). nat_lt u.at at) t ts ∙ ap (λ c. cond c (t ∷ before at ts) []) e)
+      by false e h = ap (λ n. take n (t ∷ ts)) (no t ts e) ∙ sym (take_while-cons (λ (u : Token). nat_lt u.at at) t ts ∙ ap (λ c. cond c (t ∷ before at ts) []) e)
+
+-- ---- before a top
+
+pub before_first : (ts : Tokens) (tops : List Top) (top : Top) → 1 ≤ length tops → top ≡ get_or tops 0 top → before (place_of top) ts ≡ before_top ts tops
+before_first ts [] top le is = absurd (omega (arith, le))
+before_first ts (x ∷ tops) top le is = ap (λ (y : Top). before (place_of y) ts) is ∙ by x
+  where
+    by : (y : Top) → before (place_of y) ts ≡ before_top ts (y ∷ tops)
+    by (SetType word ordered span at) = refl
+    by (Alias word of at) = refl
+    by (Module word formals body at) = refl
 
 -- ---- the last brace
 
@@ -130,7 +144,5 @@ module _ (ts : Tokens) (count whole : ℕ) (t : Token) (some : 0 < count) (withi
   brace_passed e = brace-is false e
 
 pub ruleset braces = (brace_found, brace_passed)
-
-pub ruleset halving = (counted_there, not_counted_there)
 
 pub ruleset finding = (found_there, found_nowhere)

@@ -1,14 +1,13 @@
 -- What is written, and where it becomes too long.
-use Rattle.std.proofs.Common.{◌≡◌, ◌≤◌, ◌<◌, ◌+◌, ◌-◌, ℕ, suc, List, [], ◌∷◌, ◌++◌, length, map, take, drop, refl, sym, ap, ◌∙◌, subst, append_assoc, Result, Ok, Err, arith}
-use Rattle.std.proofs.lemmas.List.{length-append, length-map, take_all, length-drop, length-take-le}
+use Rattle.std.proofs.Common.{◌≡◌, ◌+◌, ◌-◌, ℕ, suc, List, [], ◌∷◌, ◌++◌, length, drop, refl, sym, ap, ◌∙◌, subst, append_assoc, Result, Ok, Err, arith}
+use Rattle.std.proofs.lemmas.List.{length-append, length-map, take_all, length-drop}
 use Rattle.smv_core.specs.declared.fault.Fault.{Fault}
 use Rattle.smv_core.specs.declared.fault.Refusal.{Refusal}
 use Rattle.smv_core.specs.declared.fault.Refusal.TheVariants as refusal
 use Rattle.smv_lex.specs.Answers.{IfFault}
 use Rattle.law_strengthened_claims.specs.Renaming.{between}
-use Rattle.law_translated_texts.specs.Answers.{limit}
 use Rattle.law_translated_texts.specs.Translation.{Placed, Edit, placed_at, placed_from, edited}
-use Rattle.smv_ltl.specs.Writing.{IsOver, IsTooLong, GoesOn, IsTooLongWith}
+use Rattle.smv_ltl.specs.Writing.{IsTooLong, GoesOn, IsTooLongWith}
 
 pub placed-length : (from : ℕ) (bytes : List ℕ) → length (placed_from from bytes) ≡ length bytes
 placed-length from [] = refl
@@ -24,21 +23,11 @@ length-with-own old from bytes = length-append old (placed_from from bytes) ∙ 
 
 pub ruleset lengths = (length-with, length-with-own)
 
--- a fault that is handed on, of which something else is said
-pub handed-on : {X Y : Type 0} (r : Refusal) (P Q : Fault → Type 0) → ((f : Fault) → P f → Q f) → IfFault {X = X} (Err r) P → IfFault {X = Y} (Err r) Q
-handed-on (refusal.Fault f) P Q h k = h f k
-handed-on refusal.OutOfMemory P Q h k = tt
-
--- the same of an answer that is handed on as it is
+-- an answer that is handed on as it is, of whose fault something else is said
 pub fault-weaker : {X : Type 0} (r : Result X Refusal) (P Q : Fault → Type 0) → ((f : Fault) → P f → Q f) → IfFault r P → IfFault r Q
 fault-weaker (Ok x) P Q h k = tt
 fault-weaker (Err (refusal.Fault f)) P Q h k = h f k
 fault-weaker (Err refusal.OutOfMemory) P Q h k = tt
-
--- the fault of so many bytes is that of bytes that are so many
-pub room-over : {X Y : Type 0} (r : Refusal) (n : ℕ) (bytes : Placed) → n ≡ length bytes → IfFault {X = X} (Err r) (IsOver n) → IfFault {X = Y} (Err r) (IsTooLong bytes)
-room-over (refusal.Fault f) n bytes e h = (h.0, h.1, omega (arith, h.2, e))
-room-over refusal.OutOfMemory n bytes e h = tt
 
 -- what is too long stays so
 pub over-more : (xs ys : Placed) (f : Fault) → IsTooLong xs f → IsTooLong (xs ++ ys) f

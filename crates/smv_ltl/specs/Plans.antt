@@ -1,5 +1,5 @@
 -- Which plan that of the code is, and where an offset stands in it.
-use Rattle.std.specs.Prelude.{ℕ, suc, List, [], ◌∷◌, ◌+◌, Option, Some, None, Bool, if◌then◌else◌, nat_eq}
+use Rattle.std.specs.Prelude.{ℕ, List, [], ◌∷◌, ◌+◌, Option, Some, None, Bool, if◌then◌else◌, nat_eq}
 use Rattle.std.specs.HashMap.{HashMap, get_by}
 use Rattle.law_formulas.specs.Monitors as monitors
 use Rattle.smv_parse_formulas.specs.Trees.{meant}

@@ -1,6 +1,6 @@
 // The names of the monitors and of the layer: the first of `m0`, `m1` and so on that are no tokens of the text.
 ghost use Rattle.std.specs.Prelude.{◌≡◌, ◌<◌, ◌≤◌, ◌+◌, ◌^◌, ◌++◌, length, is_some, IfOk, OnOk};
-ghost use Rattle.std.specs.List.{list_any};
+ghost use Rattle.std.specs.List.{list_any, count_by};
 ghost use Rattle.std.specs.Str.{bytes_eq};
 ghost use Rattle.law_formula_texts.specs.Laws as texts;
 ghost use Rattle.law_formulas.specs.Monitors as monitors;
@@ -51,11 +51,19 @@ fn is_name(token: &Token) -> bool
     }
 }
 
+// How many tokens are names.
+fn names_among(tokens: &[Token]) -> usize
+    ensures count { result ≡ count_by (λ t. kinds.is_name t.kind) tokens.now }
+    ensures within { result ≤ length tokens.now }
+{
+    tokens.iter().filter(|token| is_name(*token)).count()
+}
+
 fn count_names(tokens: &[Token]) -> usize
     ensures length { result ≡ length (texts.names_of tokens.now) }
     ensures within { result ≤ length tokens.now }
 {
-    tokens.iter().filter(|token| is_name(*token)).count()
+    names_among(tokens)
 }
 
 #[tactic(auto, using(crate::proofs::NameLaws::used_is))]

@@ -1,5 +1,5 @@
 // Which formula each claim over several times has, and which monitors.
-ghost use Rattle.std.specs.Prelude.{◌≡◌, ℕ, nat_eq, map, take, drop, option_map, OnOk, IfOk};
+ghost use Rattle.std.specs.Prelude.{◌≡◌, ℕ, nat_eq, map, take, drop, option_map, slice_get, OnOk, IfOk};
 ghost use Rattle.law_formulas.specs.Formulas.{at_place};
 ghost use Rattle.law_formulas.specs.Monitors as monitors;
 ghost use Rattle.law_formulas.specs.Steps as steps;
@@ -104,16 +104,30 @@ pub fn make_plan<'a>(
     Ok(Plan { entries, places })
 }
 
+// The place that is noted of an offset.
+fn place_at(places: &HashMap<u32, usize>, at: u32) -> Option<usize>
+    ensures { result ≡ noted places.now at }
+{
+    places.get(&at).copied()
+}
+
+// The formula at a place, with its monitors.
+fn watched_at<'a>(entries: &[Entry<'a>], place: usize) -> Option<Watched<'a>>
+    ensures { option_map watched_of result ≡ option_map (λ e. watched_of e.watched) (slice_get entries.now place) }
+{
+    match entries.get(place) {
+        Some(entry) => Some(entry.watched),
+        None => None,
+    }
+}
+
 impl<'a> Plan<'a> {
     /// The formula at an offset, with its monitors.
     pub fn find(&self, at: u32) -> Option<Watched<'a>>
         ensures { option_map watched_of result ≡ at_place (map entry_of self.now.entries.items) at }
     {
-        match self.places.get(&at) {
-            Some(place) => match self.entries.get(*place) {
-                Some(entry) => Some(entry.watched),
-                None => None,
-            },
+        match place_at(&self.places, at) {
+            Some(place) => watched_at(self.entries.as_slice(), place),
             None => None,
         }
     }

@@ -11,7 +11,6 @@ use smv_core::tree::Top;
 use smv_phrases::parts::is_sign;
 
 // The half of the tokens from one place up to another behind which none stands before the offset, and before which all do.
-#[tactic(auto, using(crate::proofs::TokenLaws::halving))]
 fn half(tokens: &[Token], at: u32, low: usize, high: usize) -> (usize, usize)
     requires rises { Rises tokens.now }
     requires more { low < high }
@@ -73,11 +72,22 @@ pub fn from_place(tokens: &[Token], at: u32) -> &[Token]
 
 // The tokens that stand before an offset.
 #[tactic(auto, using(crate::proofs::TokenLaws::taken_before))]
-fn before(tokens: &[Token], at: u32) -> &[Token]
+fn tokens_before(tokens: &[Token], at: u32) -> &[Token]
     requires rises { Rises tokens.now }
     ensures { result.now ≡ take_while (λ t. nat_lt t.at at) tokens.now }
 {
     tokens.split_at(count_before(tokens, at)).0
+}
+
+// Where a top stands: at its name or its word.
+fn place_of(top: &Top) -> u32
+    ensures { result ≡ rising.place_of top.now }
+{
+    match top {
+        Top::SetType { name, .. } => name.at,
+        Top::Alias { at, .. } => *at,
+        Top::Module { at, .. } => *at,
+    }
 }
 
 // The tokens before a top.
@@ -87,9 +97,7 @@ fn before_top<'a>(tokens: &'a [Token], tops: &[Top]) -> &'a [Token]
 {
     match tops {
         [] => tokens,
-        [Top::SetType { name, .. }, ..] => before(tokens, name.at),
-        [Top::Alias { at, .. }, ..] => before(tokens, *at),
-        [Top::Module { at, .. }, ..] => before(tokens, *at),
+        [top, ..] => tokens_before(tokens, place_of(top)),
     }
 }
 

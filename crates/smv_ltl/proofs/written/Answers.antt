@@ -11,8 +11,8 @@ use Rattle.smv_token_ends.proofs.Standing.{tokens-stand}
 use Rattle.smv_ltl.specs.Answers as answers
 use Rattle.smv_ltl.specs.Planned.{plan_of}
 use Rattle.smv_ltl.specs.Writing.{IsTooLong}
-use Rattle.smv_ltl.proofs.WritingLaws.{handed-on}
 use Rattle.smv_ltl.proofs.TextLaws.{written-is, over-is}
+use Rattle.smv_ltl.proofs.ExitLaws.{exit-with}
 use Rattle.smv_ltl.proofs.written.Goals as goal
 
 pub edit-requires : goal.edit-requires
@@ -53,10 +53,10 @@ returns-in_err-out-clause-fault c =
     let counted : count ≡ monitors_of ft.formulas = c.in_ok-count.ensures.count ∙ ap (λ (l : List Placed). monitors_of (meanings l)) c.as_slice-formulas.ensures in
     let planned : plan ≡ watched ft.formulas names = c.in_ok-plan.ensures ∙ ap (λ (l : List Placed). watched (meanings l) c.as_slice.result.now) c.as_slice-formulas.ensures ∙ ap (λ (ns : List Name). watched ft.formulas ns) c.as_slice.ensures.value in
     let layered : layer ≡ first_name (drop count names) = c.in_ok-layer.ensures ∙ ap (λ (ns : List Name). first_name (drop count ns)) c.as_slice-2.ensures.value in
-    handed-on _ (IsTooLong (edited text 0 (edits text ts plan layer c.as_slice-3.result.now))) (λ f. (f.number ≡ 31) × (f.at ≡ 0) × (limit < length (translation_of text ts ft).text))
+    exit-with c.edit.result c.from_residual-in_err-out.result c.in_err-out.field-0.0 (IsTooLong (edited text 0 (edits text ts plan layer c.as_slice-3.result.now))) (λ f. (f.number ≡ 31) × (f.at ≡ 0) × (limit < length (translation_of text ts ft).text))
     (λ f h. (
       h.0,
       h.1,
       over-is text ts ft count names plan layer counted c.in_ok-names.ensures planned layered
           (subst (λ (tops : List Top). limit < length (edited text 0 (edits text ts plan layer tops))) c.as_slice-3.ensures h.2),
-    )) c.in_err-out.ensures.refused
+    )) c.in_err-out.was c.from_residual-in_err-out.ensures.1 c.edit.ensures.refused

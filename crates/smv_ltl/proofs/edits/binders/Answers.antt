@@ -1,4 +1,4 @@
-use Rattle.std.proofs.Common.{List, ◌++◌, drop, ap, ◌∙◌, subst, sym, arith}
+use Rattle.std.proofs.Common.{List, ◌+◌, ◌++◌, drop, ap, ◌∙◌, subst, sym, arith}
 use Rattle.std.specs.List.{AllByRecursion}
 use Rattle.smv_phrases.specs.Defined.{Stands}
 use Rattle.smv_phrases.specs.Seen.{binders_of}

@@ -2,8 +2,9 @@ use Rattle.std.proofs.Common.{List, ℕ, ◌++◌, ap, ◌∙◌, arith}
 use Rattle.law_translated_texts.specs.Translation.{placed_at}
 use Rattle.smv_ltl.specs.Edits.{all_declared}
 use Rattle.smv_ltl.specs.Writing.{IsTooLong}
-use Rattle.smv_ltl.proofs.WritingLaws.{handed-on, over-same}
+use Rattle.smv_ltl.proofs.WritingLaws.{over-same}
 use Rattle.smv_ltl.proofs.EditLaws.{told_declared, told-more, told-over}
+use Rattle.smv_ltl.proofs.ExitLaws.{exit-with}
 use Rattle.smv_ltl.proofs.edits.write_declarations.Goals as goal
 
 pub loop-one-preserved : goal.loop-one-preserved
@@ -22,6 +23,6 @@ returns-in_err-append-clause-refused c =
     let one = c.one-item.result in
     let old = c.args.out.now.items in
     let now = c.loop-one.out.items in
-    handed-on _ (IsTooLong (now ++ placed_at one.name c.as_slice.result.now)) (IsTooLong (old ++ all_declared source c.args.changed.now))
+    exit-with c.append.result c.from_residual-in_err-append.result c.in_err-append.field-0.0 (IsTooLong (now ++ placed_at one.name c.as_slice.result.now)) (IsTooLong (old ++ all_declared source c.args.changed.now))
     (λ f h. told-over (told_declared source) c.args.changed.now c.loop-one.one-index one (omega arith) c.one-item.is old now c.loop-one.invariant.told f
-    (over-same (now ++ placed_at one.name c.as_slice.result.now) (now ++ told_declared source one) f (ap (λ (l : List ℕ). now ++ placed_at one.name l) (c.as_slice.ensures.value ∙ c.in_ok-bytes.ensures)) h)) c.in_err-append.ensures.refused
+    (over-same (now ++ placed_at one.name c.as_slice.result.now) (now ++ told_declared source one) f (ap (λ (l : List ℕ). now ++ placed_at one.name l) (c.as_slice.ensures.value ∙ c.in_ok-bytes.ensures)) h)) c.in_err-append.was c.from_residual-in_err-append.ensures.1 c.append.ensures.refused

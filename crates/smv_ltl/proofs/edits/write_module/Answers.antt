@@ -6,8 +6,9 @@ use Rattle.smv_ltl.specs.Changes.{changes_of}
 use Rattle.smv_ltl.specs.Edits.{edits_of, edits_in, layer_edits}
 use Rattle.smv_ltl.specs.Planned.{plan_of}
 use Rattle.smv_ltl.specs.Writing.{GoesOn, IsTooLongWith}
-use Rattle.smv_ltl.proofs.WritingLaws.{handed-on, fault-weaker, edits-more, over-first, over-second}
+use Rattle.smv_ltl.proofs.WritingLaws.{fault-weaker, edits-more, over-first, over-second}
 use Rattle.smv_ltl.proofs.EditLaws.{module-edits}
+use Rattle.smv_ltl.proofs.ExitLaws.{exit-with}
 use Rattle.smv_ltl.proofs.edits.write_module.Goals as goal
 
 pub returns-clause-written : goal.returns-clause-written
@@ -37,8 +38,8 @@ returns-in_err-to-clause-refused c =
     let es = edits_of source changed in
     let fs = layer_edits source layer (closing source.tokens.now c.args.behind.now) changed in
     let whole = module-edits source plan layer c.args.items.now c.args.behind.now changed (closing source.tokens.now c.args.behind.now) (ap (λ (l : List Changed). changes_of l) c.as_slice-changed.ensures.value ∙ c.in_ok-found.ensures) refl in
-    handed-on _ (IsTooLongWith text es c.args.from old) (IsTooLongWith text (edits_in source plan layer c.args.items.now c.args.behind.now) c.args.from old)
-    (λ f h. subst (λ (l : List Edit). IsTooLongWith text l c.args.from old f) whole (over-first text es fs c.args.from old f h)) c.in_err-to.ensures.refused
+    exit-with c.write_claims.result c.from_residual-in_err-to.result c.in_err-to.field-0.0 (IsTooLongWith text es c.args.from old) (IsTooLongWith text (edits_in source plan layer c.args.items.now c.args.behind.now) c.args.from old)
+    (λ f h. subst (λ (l : List Edit). IsTooLongWith text l c.args.from old f) whole (over-first text es fs c.args.from old f h)) c.in_err-to.was c.from_residual-in_err-to.ensures.1 c.write_claims.ensures.refused
 
 pub returns-clause-refused : goal.returns-clause-refused
 returns-clause-refused c =

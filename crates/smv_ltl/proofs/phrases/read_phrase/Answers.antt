@@ -14,18 +14,18 @@ loop-step-preserved c =
     let formula = c.args.formula.now in
     let i = c.loop-step.step-index in
     let more = c.front_of.result.1.now in
-    let same = ap (λ (l : List Step). length l) c.as_slice.ensures in
+    let same = ap (λ (l : List Step). length l) c.as_slice-step-items.ensures in
     record {
       stand = c.front_of.ensures.stand;
       read = ap (λ (fs : List Front). seen.behind fs (phrase_of text (parts_of (trees.behind (drop (i + 1) formula.steps) (innermost formula.end)) more))) c.in_ok-push.ensures.items
           ∙ read-more text c.loop-step.fronts.items formula.steps i (innermost formula.end) c.loop-step.rest.now (phrase_of text (parts_of (meant formula) c.args.tokens.now)) c.loop-step.invariant.read c.front_of.result.0 c.step-item.result more (omega (arith, same))
-          (c.step-item.is ∙ ap (λ (l : List Step). get_or l i c.step-item.result) c.as_slice.ensures) c.front_of.ensures.read;
+          (c.step-item.is ∙ ap (λ (l : List Step). get_or l i c.step-item.result) c.as_slice-step-items.ensures) c.front_of.ensures.read;
     }
 
 pub returns : goal.returns
 returns c =
     let text = c.args.text.now in
     let formula = c.args.formula.now in
-    let same = ap (λ (l : List Step). length l) c.as_slice.ensures in
+    let same = ap (λ (l : List Step). length l) c.as_slice-step-items.ensures in
     ap (λ (g : Phrase (List ℕ)). seen.behind c.loop-step.fronts.items g) c.last_of-last.ensures
     ∙ read-all text c.loop-step.fronts.items formula.steps c.loop-step.step-index (innermost formula.end) c.loop-step.rest.now (phrase_of text (parts_of (meant formula) c.args.tokens.now)) c.loop-step.invariant.read (omega (arith, same))

@@ -1,4 +1,4 @@
-use Rattle.std.proofs.Common.{List, ◌++◌, map, drop, ap, ◌∙◌, arith}
+use Rattle.std.proofs.Common.{List, ◌+◌, ◌++◌, map, drop, ap, ◌∙◌, arith}
 use Rattle.law_formulas.specs.Monitors.{watched}
 use Rattle.smv_parse_formulas.specs.Trees.{meanings}
 use Rattle.smv_ltl.specs.declared.plan.Entry.{Entry}
