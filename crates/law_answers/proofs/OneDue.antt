@@ -6,7 +6,7 @@ use Rattle.smv_report.specs.Lines.{fault_text}
 use Rattle.smv_command.specs.declared.commands.Command.{Command}
 use Rattle.smv_command.specs.declared.exit.Status.{Status}
 use Rattle.law_valid_texts.specs.Laws.{OneTree, OneReport, OneUnitReport, UnitsAreOrAreNot}
-use Rattle.smv_command.specs.declared.commands.Command.TheVariants.{Print, Confirm, Induct, Ltl}
+use Rattle.smv_command.specs.declared.commands.Command.TheVariants.{Print, Confirm}
 use Rattle.smv_command.specs.declared.exit.Status.TheVariants.{Inducted, AllFormulas}
 use Rattle.law_document_answers.specs.Laws.{OneDocumentAnswer}
 use Rattle.law_induct_answers.specs.Laws.{OneInductAnswer}
