@@ -40,7 +40,7 @@ under Check n number at is = is
 under (Resume budgets) n number at is = is
 under (Confirm name sizes bits budgets) n number at is = inl is
 under (Induct name var budgets) n number at is = is
-under (Ltl bits budgets) n number at is = is
+under (Ltl bits budgets) n number at is = inl is
 
 module _ (form : IsWithin) (trees : TreesOfTextsAreWithin) (passes : PassFaultsAreWithin) (flat : FlattenedTextsAreWithin) (designs : DesignsAreWithin) where
   pub fault-within : (command : Command) (text : List ℕ) (number at : ℕ) → IsFault command text number at → IsFaultUnder command (length text) number at

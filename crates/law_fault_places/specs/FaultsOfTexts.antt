@@ -1,4 +1,4 @@
--- Each refusal of a text has a number of 1 to 31, or for the sizes of a confirmation 34 or 35, or for an induction 36, and a place of at most the text's length; each refusal of formulas a number of 1 to 31, or 37.
+-- Each refusal of a text has a number of 1 to 31, or for the sizes of a confirmation 34 or 35, or for an induction 36, or for formulas over several times 37, and a place of at most the text's length.
 use Rattle.std.specs.Prelude.{◌≡◌, ◌≤◌, ◌⊎◌, ℕ, false, List, length}
 use Rattle.smv_core.specs.Values.{Name}
 use Rattle.smv_core.specs.declared.tree.Text.{Text}
@@ -7,7 +7,7 @@ use Rattle.smv_bits.specs.declared.Bits.{Bits}
 use Rattle.smv_problem.specs.declared.report.Budgets.{Budgets}
 use Rattle.smv_report.specs.Lines.{fault_text}
 use Rattle.smv_command.specs.declared.commands.Command.{Command}
-use Rattle.smv_command.specs.declared.commands.Command.TheVariants.{Confirm}
+use Rattle.smv_command.specs.declared.commands.Command.TheVariants.{Confirm, Ltl}
 use Rattle.smv_command.specs.declared.exit.Status.TheVariants as status
 use Rattle.law_judgements.specs.Judgements.{IsFaultOf}
 use Rattle.law_strengthened_texts.specs.Stronger.{Stronger, back, IsStrengthened}
@@ -25,9 +25,15 @@ pub record IsSizeFaultWithin (n number at : ℕ) : Type 0 where
   pub highest : number ≤ 35
   pub place : at ≤ n
 
+-- the number 37, which formulas over several times have alone, and a place of at most n
+pub record IsFormulaFaultWithin (n number at : ℕ) : Type 0 where
+  pub own : number ≡ 37
+  pub place : at ≤ n
+
 -- the number and the place of a fault under a command
 abbrev pub IsFaultUnder : Command → ℕ → ℕ → ℕ → Type 0
 IsFaultUnder (Confirm name sizes bits budgets) n number at = IsFaultWithin n number at ⊎ IsSizeFaultWithin n number at
+IsFaultUnder (Ltl bits budgets) n number at = IsFaultWithin n number at ⊎ IsFormulaFaultWithin n number at
 IsFaultUnder _ n number at = IsFaultWithin n number at
 
 -- the first fault of a text under any command stands within the text
@@ -53,10 +59,7 @@ abbrev pub InductionRefusalsTellFaults : Type 0
 InductionRefusalsTellFaults = (name var : Name) (budgets : Budgets) (text answer : List ℕ) → IsInductDue status.Inducted name var budgets text status.Refused answer →
     ((number : ℕ) × (at : ℕ) × IsFaultWithin (length text) number at × (answer ≡ fault_text text number at)) ⊎ (answer ≡ fault_text text 36 0)
 
--- a number of 1 to 31, or 37, which formulas over several times have alone
-abbrev pub IsFormulaFault : ℕ → Type 0
-IsFormulaFault number = ((1 ≤ number) × (number ≤ 31)) ⊎ (number ≡ 37)
-
--- a refusal that is due to the command for formulas over several times tells a fault of such a number
+-- and a refusal that is due to formulas over several times tells a fault of the text or of the translated one, at a place of the text that was read
 abbrev pub FormulaRefusalsTellFaults : Type 0
-FormulaRefusalsTellFaults = (bits : Bits) (budgets : Budgets) (text answer : List ℕ) → IsLtlDue status.AllFormulas bits budgets text status.Refused answer → (number : ℕ) × (at : ℕ) × IsFormulaFault number × (answer ≡ fault_text text number at)
+FormulaRefusalsTellFaults = (bits : Bits) (budgets : Budgets) (text answer : List ℕ) → IsLtlDue status.AllFormulas bits budgets text status.Refused answer →
+    (number : ℕ) × (at : ℕ) × IsFaultUnder (Ltl bits budgets) (length text) number at × (answer ≡ fault_text text number at)

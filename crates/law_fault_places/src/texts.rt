@@ -4,6 +4,7 @@ ghost use Rattle.law_fault_places.specs.FaultsOfTexts.{TreesOfTextsAreWithin, Fa
 use crate::flat::{designs_are_within, flattened_texts_are_within};
 use crate::passes::pass_faults_are_within;
 use crate::trees::spelled_trees_are_within;
+use law_formula_places::laws::{refusals_are_within, translations_are_carried_back};
 use law_strengthened_texts::laws::stronger_is_placed;
 use smv_parse::one_answer;
 
@@ -33,7 +34,7 @@ pub fn places_are_carried_back()
     stronger_is_placed();
 }
 
-/// A refusal that is due tells a fault of such a number and place; one of an induction may tell 36 at the front, and one of formulas over several times tells a number of 1 to 31, or 37.
+/// A refusal that is due tells a fault of such a number and place; one of an induction may tell 36 at the front, and one of formulas over several times 37 at such a place.
 pub fn refusals_tell_faults()
     ensures texts { RefusalsTellFaults }
     ensures documents { DocumentRefusalsTellFaults }
@@ -43,4 +44,6 @@ pub fn refusals_tell_faults()
     one_answer();
     faults_are_within();
     places_are_carried_back();
+    refusals_are_within();
+    translations_are_carried_back();
 }

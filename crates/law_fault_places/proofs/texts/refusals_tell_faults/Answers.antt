@@ -15,4 +15,4 @@ pub returns-clause-inductions : goal.returns-clause-inductions
 returns-clause-inductions c = λ name var budgets text answer due. induction-refusal-tells c.faults_are_within.ensures c.places_are_carried_back.ensures status.Inducted refl name var budgets text status.Refused answer due refl
 
 pub returns-clause-formulas : goal.returns-clause-formulas
-returns-clause-formulas c = λ bits budgets text answer due. formula-refusal-tells c.one_answer.ensures.within c.faults_are_within.ensures status.AllFormulas refl bits budgets text status.Refused answer due refl
+returns-clause-formulas c = λ bits budgets text answer due. formula-refusal-tells c.one_answer.ensures.within c.refusals_are_within.ensures c.translations_are_carried_back.ensures c.faults_are_within.ensures status.AllFormulas refl bits budgets text status.Refused answer due refl
