@@ -214,8 +214,8 @@ def with_faults(text):
         at = text.index(NINTH)
         plain = text.replace(NINTH, "")
         return plain, f"fault 37 at {place_of(plain, at)}\n"
-    claims = list(re.finditer(r"\b(\w+)(?:\[\w+\])*[^\w\[]*:[^\w=]*assert\s+G\s+(?:if|X|W)\b", text))
-    if claims and random.random() < 0.1:
+    claims = [] if re.search(r"--|/\*", text) else list(re.finditer(r"\b(\w+)(?:\[\w+\])*[^\w\[]*:[^\w=]*assert\s+G\s+(?:if|X|W)\b", text))
+    if claims and random.random() < 0.2:
         claim = random.choice(claims)
         inside = re.compile(r"\b[01]\b").search(text, claim.end(), text.index(";", claim.end()))
         if inside:
