@@ -214,11 +214,11 @@ def with_faults(text):
         at = text.index(NINTH)
         plain = text.replace(NINTH, "")
         return plain, f"fault 37 at {place_of(plain, at)}\n"
-    spots = [m for m in re.finditer(r"([\w]+)(?:\[\w+\])*[^\w\[]*:[^\w=]*assert\s+G\s+(?:if|X|W)\b", text)]
-    if spots and random.random() < 0.05:
-        claim = random.choice(spots)
-        inside = re.compile(r"\b(?:0|1)\b(?![^;]*\?)").search(text, claim.end(), text.find(";", claim.end()))
-        if inside and "/*" not in text and "--" not in text:
+    claims = [] if re.search(r"--|/\*", text) else list(re.finditer(r"\b(\w+)(?:\[\w+\])*[^\w\[]*:[^\w=]*assert\s+G\s+(?:if|X|W)\b", text))
+    if claims and random.random() < 0.2:
+        claim = random.choice(claims)
+        inside = re.compile(r"\b[01]\b").search(text, claim.end(), text.index(";", claim.end()))
+        if inside:
             return text[: inside.start()] + "nil" + text[inside.end() :], f"fault 7 at {place_of(text, claim.start())}\n"
     return text, None
 
