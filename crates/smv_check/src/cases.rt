@@ -1,34 +1,28 @@
 // The sets of a document beside the cases of a leaf.
 ghost use Rattle.std.specs.Prelude.{◌≡◌, ◌<◌, ◌*◌, ◌++◌, [], ◌∷◌, ◌&&◌, nat_eq, true, List, None, IfOk};
 ghost use Rattle.std.specs.Str.{bytes_eq};
-ghost use Rattle.bdd_store.specs.Diagram.{IsLive, table};
-ghost use Rattle.smv_rings.specs.Lists.{IsCurrent};
-ghost use Rattle.smv_rings.specs.Paths.{IsInductive};
 ghost use Rattle.law_obligations.specs.LeafCases.{leaf_cases};
 ghost use Rattle.law_obligations.specs.Readings.{state_bits as bits_of_case};
 ghost use Rattle.smv_problem.specs.WellFormed.{IsProblem, IsProblemOf, OfCases};
 ghost use Rattle.law_problems.specs.Parts.{IsCaseOf, width_fault};
 ghost use Rattle.law_valid_texts.specs.Rooms.{HasRoom};
-ghost use Rattle.law_reports.specs.CaseLists.{case_lists};
 ghost use Rattle.smv_cases.specs.Slots.{classes_of};
 ghost use Rattle.smv_obligations.specs.Shared.{IsShared, shared_in};
 ghost use Rattle.smv_proof.specs.Documents.{most, is_set};
+ghost use Rattle.smv_proof.specs.Meanings.{is_below};
 ghost use Rattle.law_checked_proofs.specs.Cases.{UnitCase, cases_from};
+ghost use Rattle.law_checked_proofs.specs.Checked.{Meets};
 ghost use Rattle.smv_check.specs.Tasks.{IsTask, case_in, unit_case};
 ghost use Rattle.smv_check.specs.Progress.{HasPassed, IsLooked, IsNext, IsNextOf, Follows, GivesBack};
 
 use crate::units::{Looked, Progress};
-use bdd_store::{Ref, Store};
 use smv_cases::calls::cases;
 use smv_core::Name;
 use smv_core::flat::{Case, Choice, Def, Design, Leaf, Timed, Unit};
-use smv_encode::relations;
-use smv_inductive::inductive;
+use smv_meets::{is_over, meets};
 use smv_obligations::{Shared, problem_with, taken_back};
 use smv_problem::Problem;
-use smv_proof::laws::sets_are_current;
-use smv_proof::{KeptSet, rebuild};
-use smv_readings::state_bits;
+use smv_proof::KeptSet;
 use std::alloc::{AllocError, Global};
 
 /// A leaf with its name, its choice and the times of its uses. With it come the units of its design, for each family the definition that its proof uses, and the sets of the document.
@@ -210,60 +204,33 @@ fn judge(
     requires looked { progress.looked < most }
     ensures { IfOk result (λ next. OfCases problem.entry.now (λ c. IsNext c set.now progress next)) }
 {
-    let bits = state_bits(problem);
-    let mut store = Store::new(alloc, 2 * u32::from(bits))?;
-    let next = judge_in(alloc, problem, &mut store, set, progress)?;
-    Ok(next)
-}
-
-// The same in a store of a current and a next variable for each state bit.
-fn judge_in(
-    alloc: Global,
-    problem: &Problem,
-    store: &mut Store,
-    set: &KeptSet,
-    progress: Progress,
-) -> Result<Option<Progress>, AllocError>
-    requires problem { IsProblem problem.now }
-    requires vars { OfCases problem.now (λ c. store.old.vars ≡ 2 * bits_of_case c) }
-    requires set { is_set set.now ≡ true }
-    requires looked { progress.looked < most }
-    ensures { IfOk result (λ next. OfCases problem.entry.now (λ c. IsNext c set.now progress next)) }
-{
-    sets_are_current();
-    let found = rebuild(alloc, store, set)?;
-    match found {
-        Some(states) => {
-            let failed = failed_by(alloc, problem, store, states, progress)?;
-            Ok(Some(Progress {
-                looked: progress.looked + 1,
-                failed,
-            }))
-        }
-        None => Ok(None),
+    if !is_over(problem, set) {
+        return Ok(None);
     }
+    let failed = failed_by(alloc, problem, set, progress)?;
+    Ok(Some(Progress {
+        looked: progress.looked + 1,
+        failed,
+    }))
 }
 
-// The first failure behind a set of states: an earlier one, or else the set's own, where it fails a condition of induction.
+// The first failure behind a set over the state bits: an earlier one, or else the set's own, where it fails a condition of induction.
 fn failed_by(
     alloc: Global,
     problem: &Problem,
-    store: &mut Store,
-    states: Ref,
+    set: &KeptSet,
     progress: Progress,
 ) -> Result<Option<u32>, AllocError>
     requires problem { IsProblem problem.now }
-    requires vars { OfCases problem.now (λ c. store.old.vars ≡ 2 * bits_of_case c) }
-    requires states { IsLive store.old states }
-    requires current { IsCurrent (table store.old states) }
+    requires set { is_set set.now ≡ true }
+    requires below { OfCases problem.now (λ c. is_below (2 * bits_of_case c) set.now ≡ true) }
     requires looked { progress.looked < most }
-    ensures { IfOk result (λ failed. OfCases problem.entry.now (λ c. Follows (IsInductive (case_lists c) (table store.old states)) progress.looked progress.failed failed)) }
+    ensures { IfOk result (λ failed. OfCases problem.entry.now (λ c. Follows (Meets c set.now) progress.looked progress.failed failed)) }
 {
     if progress.failed.is_some() {
         return Ok(progress.failed);
     }
-    let rel = relations(alloc, problem, store)?;
-    let holds = inductive(alloc, &rel, store, states)?;
+    let holds = meets(alloc, problem, set)?;
     if holds {
         return Ok(None);
     }

@@ -1,14 +1,10 @@
 -- What is tried of a case, from what stands in its store.
 use Rattle.std.proofs.Common.{◌≡◌, ◌∙◌, ◌≤◌, ◌+◌, ◌*◌, ◌⊎◌, inl, inr, ◌↔◌, IsTrue, ℕ, Bool, true, false, List, ◌∷◌, [], Option, Some, None, refl, sym, ap, subst, arith}
-use Rattle.std.specs.Prelude.{IfSome}
 use Rattle.bdd_store.specs.declared.Ref.{Ref}
-use Rattle.bdd_store.specs.Diagram.{Diagram, IsLive, table, Keeps}
-use Rattle.bdd_ops.specs.Functions.{Function}
+use Rattle.bdd_store.specs.Diagram.{Diagram, IsLive, table}
 use Rattle.smv_rings.specs.declared.Rel.{Rel}
-use Rattle.smv_rings.specs.Lists.{Lists, IsCurrent, IsRel, lists_of}
-use Rattle.smv_rings.specs.Paths.{IsInductive}
+use Rattle.smv_rings.specs.Lists.{Lists, IsRel, lists_of}
 use Rattle.smv_rings.specs.Schedule.{ring}
-use Rattle.smv_rings.proofs.Kept.{lists_kept}
 use Rattle.smv_rings.specs.Ops.{IsOneOf}
 use Rattle.smv_search.specs.declared.Outcome.{Outcome}
 use Rattle.smv_search.specs.declared.Outcome.TheVariants.{Closed, Reaches, OutOfNodes, OutOfSteps}
@@ -29,46 +25,23 @@ use Rattle.smv_decide.specs.Decisions.{IsDecided}
 use Rattle.smv_decide.specs.Leaves.{verdict_at}
 use Rattle.smv_proof.specs.declared.proof.KeptSet.{KeptSet}
 use Rattle.smv_proof.specs.Documents.{last_var}
-use Rattle.smv_proof.specs.Meanings.{is_below, meaning}
+use Rattle.smv_proof.specs.Meanings.{is_below}
 use Rattle.smv_proof.specs.Kept.{kept_set}
-use Rattle.smv_proof.specs.Rebuilt.{IsRebuilt}
 use Rattle.law_checked_proofs.specs.Cases.{UnitCase}
+use Rattle.law_checked_proofs.specs.Checked.{Meets}
 use Rattle.law_checked_proofs.specs.Kept.{IsKept}
-use Rattle.law_checked_proofs.specs.Resumed.{Serves}
 use Rattle.smv_kept_cases.specs.declared.cases.Tried.{Tried}
 use Rattle.smv_kept_cases.specs.declared.cases.Tried.TheVariants as tried
 use Rattle.smv_kept_cases.specs.declared.cases.Place.{Place}
-use Rattle.smv_kept_cases.specs.Tried.{ServesIn, closed_in, case_at_place, IsOpen, IsSearched, StandsBy, IsTried}
+use Rattle.smv_kept_cases.specs.Tried.{ServesFor, closed_in, case_at_place, IsOpen, IsSearched, StandsBy, IsTried}
 
--- ---- a set in a store
+-- ---- a set
 
-pub is_meaning : (d : Diagram) (set : KeptSet) (root : Ref) → IsRebuilt d set root → table d root ≡ meaning set
-is_meaning d set root is = λ i a. is.table_is a i
+pub serves_where : (c : PosedCase) (set : KeptSet) → is_below (2 * state_bits c) set ≡ true → (x : Bool) → IsTrue x ↔ Meets c set → IsTrue x ↔ ServesFor c set
+serves_where c set below x iff = ((λ t. (below, iff.0 t)), λ s. iff.1 s.1)
 
-pub rebuilt_by : (d : Diagram) (set : KeptSet) (found : Option Ref) (root : Ref) → found ≡ Some root → IfSome found (IsRebuilt d set) → IsRebuilt d set root
-rebuilt_by d set found root is some = subst (λ (o : Option Ref). IfSome o (IsRebuilt d set)) is some
-
-pub current_by : (d : Diagram) (set : KeptSet) (root : Ref) → IsRebuilt d set root → IsCurrent (meaning set) → IsCurrent (table d root)
-current_by d set root is current = subst IsCurrent (sym (is_meaning d set root is)) current
-
--- a function that was found is of a set below the store's variables
-pub below_found : (n : ℕ) (set : KeptSet) (found : Option Ref) (root : Ref) → found ≡ Some root → (found ≡ None) ↔ (is_below n set ≡ false) → is_below n set ≡ true
-below_found n set found root is iff = by (is_below n set) refl
-  where
-    by : (b : Bool) → is_below n set ≡ b → b ≡ true
-    by true e = refl
-    by false e = let none = iff.1 e in absurd (cc (is, none))
-
-pub serves_where : (d e : Diagram) (rel : Rel) (set : KeptSet) (root : Ref) → IsRel d rel → Keeps d e → IsRebuilt e set root → is_below d.vars set ≡ true → (x : Bool) → (IsTrue x ↔ IsInductive (lists_of e rel) (table e root)) → IsTrue x ↔ ServesIn d rel set
-serves_where d e rel set root ok keeps is below x iff =
-    let lists = lists_kept d e rel ok keeps in
-    let means = is_meaning e set root is in (
-      (λ t. (below, subst (λ (l : Lists). IsInductive l (meaning set)) lists (subst (λ (f : Function). IsInductive (lists_of e rel) f) means (iff.0 t)))),
-      (λ s. iff.1 (subst (λ (f : Function). IsInductive (lists_of e rel) f) (sym means) (subst (λ (l : Lists). IsInductive l (meaning set)) (sym lists) s.1))),
-    )
-
-pub serves_not : (d : Diagram) (rel : Rel) (set : KeptSet) → is_below d.vars set ≡ false → IsTrue false ↔ ServesIn d rel set
-serves_not d rel set above = ((λ t. absurd (cc (t))), λ s. let under = s.0 in absurd (cc (above, under)))
+pub serves_not : (c : PosedCase) (set : KeptSet) → is_below (2 * state_bits c) set ≡ false → IsTrue false ↔ ServesFor c set
+serves_not c set above = ((λ t. absurd (cc (t))), λ s. let under = s.0 in absurd (cc (above, under)))
 
 -- ---- the bits of a case
 
@@ -121,25 +94,13 @@ open_where nodes images place c decided.UnknownSteps found verdict is e f = subs
 
 -- ---- the old set first
 
-module _ (nodes images : ℕ) (d : Diagram) (rel : Rel) (place : Place) (c : PosedCase) (ok : IsRel d rel) (lists : IsListsOf c (lists_of d rel)) where
-  pub serves_from : (set : KeptSet) → ServesIn d rel set → Serves (case_at_place place c) set
-  serves_from set serves = (
-    subst (λ (n : ℕ). is_below n set ≡ true) (bits_are d rel c ok lists) serves.0,
-    subst (λ (l : Lists). IsInductive l (meaning set)) lists serves.1,
-  )
+module _ (nodes images : ℕ) (place : Place) (c : PosedCase) where
+  pub tried_old : (old : Option KeptSet) (set : KeptSet) → old ≡ Some set → ServesFor c set → IsTried nodes images old (case_at_place place c) (tried.True set)
+  tried_old old set is serves = inl (is, serves)
 
-  pub serves_to : (set : KeptSet) → Serves (case_at_place place c) set → ServesIn d rel set
-  serves_to set serves = (
-    subst (λ (n : ℕ). is_below n set ≡ true) (sym (bits_are d rel c ok lists)) serves.0,
-    subst (λ (l : Lists). IsInductive l (meaning set)) (sym lists) serves.1,
-  )
+  new_where : (old : Option KeptSet) → ((set : KeptSet) → old ≡ Some set → ServesFor c set → ⊥) → StandsBy nodes images old (case_at_place place c) → ⊥
+  new_where old none (set, is_old, serves) = none set is_old serves
 
-  pub tried_old : (old kept : Option KeptSet) (set : KeptSet) → kept ≡ Some set → ((set : KeptSet) → kept ≡ Some set → (old ≡ Some set) × ServesIn d rel set) → IsTried nodes images old (case_at_place place c) (tried.True set)
-  tried_old old kept set is some = let found = some set is in inl (found.0, serves_from set found.1)
-
-  new_where : (old kept : Option KeptSet) → kept ≡ None → (kept ≡ None → (set : KeptSet) → old ≡ Some set → ServesIn d rel set → ⊥) → StandsBy nodes images old (case_at_place place c) → ⊥
-  new_where old kept is none (set, is_old, serves) = none is set is_old (serves_to set serves)
-
-  pub tried_new : (old kept : Option KeptSet) → kept ≡ None → (kept ≡ None → (set : KeptSet) → old ≡ Some set → ServesIn d rel set → ⊥) → (done : Tried) → IsSearched nodes images (case_at_place place c) done → IsTried nodes images old (case_at_place place c) done
-  tried_new old kept is none (tried.True set) searched = inr (new_where old kept is none, searched)
-  tried_new old kept is none (tried.Open verdict) searched = (new_where old kept is none, searched)
+  pub tried_new : (old : Option KeptSet) → ((set : KeptSet) → old ≡ Some set → ServesFor c set → ⊥) → (done : Tried) → IsSearched nodes images (case_at_place place c) done → IsTried nodes images old (case_at_place place c) done
+  tried_new old none (tried.True set) searched = inr (new_where old none, searched)
+  tried_new old none (tried.Open verdict) searched = (new_where old none, searched)

@@ -1,31 +1,28 @@
 -- What is tried of a case: the old set that is given for it, and then a search.
 use Rattle.std.specs.Prelude.{◌≡◌, ◌⊎◌, ◌*◌, ℕ, true, List, Option, Some, None}
 use Rattle.bdd_store.specs.declared.Ref.{Ref}
-use Rattle.bdd_store.specs.Diagram.{Diagram}
-use Rattle.smv_rings.specs.declared.Rel.{Rel}
-use Rattle.smv_rings.specs.Lists.{lists_of}
-use Rattle.smv_rings.specs.Paths.{IsInductive}
 use Rattle.smv_search.specs.declared.Outcome.{Outcome}
 use Rattle.smv_search.specs.declared.Outcome.TheVariants.{Closed, Reaches, OutOfNodes, OutOfSteps}
 use Rattle.law_events.specs.Events.{IsFirstEvent}
 use Rattle.law_events.specs.Events.Event.{Counted, Reached, Images}
-use Rattle.law_obligations.specs.Readings.{PosedCase}
+use Rattle.law_obligations.specs.Readings.{PosedCase, state_bits}
 use Rattle.smv_problem.specs.declared.report.Verdict.{Verdict}
 use Rattle.smv_problem.specs.declared.report.Verdict.TheVariants.{True, False, UnknownNodes, UnknownSteps}
 use Rattle.law_reports.specs.CaseLists.{case_lists}
 use Rattle.law_reports.specs.Reports.{IsShown}
 use Rattle.smv_proof.specs.declared.proof.KeptSet.{KeptSet}
-use Rattle.smv_proof.specs.Meanings.{is_below, meaning}
+use Rattle.smv_proof.specs.Meanings.{is_below}
 use Rattle.law_checked_proofs.specs.Cases.{UnitCase}
+use Rattle.law_checked_proofs.specs.Checked.{Meets}
 use Rattle.law_checked_proofs.specs.Kept.{IsKept}
 use Rattle.law_checked_proofs.specs.Resumed.{Serves, IsToldBy, AreSetsOf}
 use Rattle.smv_kept_cases.specs.declared.cases.Tried.{Tried}
 use Rattle.smv_kept_cases.specs.declared.cases.Tried.TheVariants as tried
 use Rattle.smv_kept_cases.specs.declared.cases.Place.{Place}
 
--- a set is over the variables of a store, and it meets the four conditions of induction of the lists that stand there
-abbrev pub ServesIn : Diagram → Rel → KeptSet → Type 0
-ServesIn d rel set = (is_below d.vars set ≡ true) × IsInductive (lists_of d rel) (meaning set)
+-- a set is over the state bits of a case, and it meets the four conditions of induction
+abbrev pub ServesFor : PosedCase → KeptSet → Type 0
+ServesFor c set = (is_below (2 * state_bits c) set ≡ true) × Meets c set
 
 -- the set that closed a search
 abbrev pub closed_in : Outcome → Option Ref

@@ -1,6 +1,5 @@
 // One case: by its old set where that still serves, and else by a search.
 ghost use Rattle.std.specs.Prelude.{◌≡◌, ◌≤◌, ◌↔◌, true, Some, None, IfOk, IsTrue, option_copied};
-ghost use Rattle.bdd_store.specs.Diagram.{Keeps};
 ghost use Rattle.smv_rings.specs.Lists.{IsRel, lists_of};
 ghost use Rattle.law_reports.specs.CaseLists.{IsListsOf};
 ghost use Rattle.smv_problem.specs.WellFormed.{IsProblem, OfCases};
@@ -9,7 +8,7 @@ ghost use Rattle.smv_obligations.specs.Shared.{IsShared, shared_in};
 ghost use Rattle.smv_decide.specs.Tasks.{IsTask, case_in};
 ghost use Rattle.smv_proof.specs.Documents.{is_set};
 ghost use Rattle.smv_proof.specs.declared.proof.KeptSet.{KeptSet};
-ghost use Rattle.smv_kept_cases.specs.Tried.{ServesIn, closed_in, IsSearched, IsTried, case_at_place};
+ghost use Rattle.smv_kept_cases.specs.Tried.{ServesFor, closed_in, IsSearched, IsTried, case_at_place};
 
 use bdd_store::{Ref, Store};
 use smv_copies::copy_name;
@@ -19,11 +18,10 @@ use smv_decide::leaves::verdict_at;
 use smv_decide::room::relations_in_room;
 use smv_decide::tasks::Task;
 use smv_decide::{problem_of, tell};
-use smv_inductive::inductive;
+use smv_meets::{is_over, meets};
 use smv_obligations::{Shared, taken_back};
 use smv_problem::{Budgets, Problem, Verdict};
-use smv_proof::laws::sets_are_current;
-use smv_proof::{KeptSet, rebuild};
+use smv_proof::KeptSet;
 use smv_proof_take::take;
 use smv_readings::state_bits;
 use smv_rings::Rel;
@@ -53,21 +51,16 @@ pub(crate) struct TriedCase {
 }
 
 // Whether a set still serves.
-fn serves(alloc: Global, rel: &Rel, store: &mut Store, set: &KeptSet) -> Result<bool, AllocError>
-    requires rel { IsRel store.old rel.now }
+fn serves(alloc: Global, problem: &Problem, set: &KeptSet) -> Result<bool, AllocError>
+    requires problem { IsProblem problem.now }
     requires set { is_set set.now ≡ true }
-    ensures serves { IfOk result (λ x. IsTrue x ↔ ServesIn store.old rel.now set.now) }
-    ensures keeps { Keeps store.old store.new }
+    ensures { IfOk result (λ x. OfCases problem.entry.now (λ c. IsTrue x ↔ ServesFor c set.now)) }
 {
-    sets_are_current();
-    let found = rebuild(alloc, store, set)?;
-    match found {
-        Some(root) => {
-            let holds = inductive(alloc, rel, store, root)?;
-            Ok(holds)
-        }
-        None => Ok(false),
+    if !is_over(problem, set) {
+        return Ok(false);
     }
+    let holds = meets(alloc, problem, set)?;
+    Ok(holds)
 }
 
 // A copy of a set.
@@ -87,19 +80,17 @@ fn copy_set(alloc: Global, set: &KeptSet) -> Result<KeptSet, AllocError>
 // A copy of the old set of a case, if there is one and it still serves.
 fn kept_of_old(
     alloc: Global,
-    rel: &Rel,
-    store: &mut Store,
+    problem: &Problem,
     old: Option<&KeptSet>,
 ) -> Result<Option<KeptSet>, AllocError>
-    requires rel { IsRel store.old rel.now }
+    requires problem { IsProblem problem.now }
     requires set { (set : KeptSet) → option_copied old ≡ Some set → is_set set ≡ true }
-    ensures some { IfOk result (λ kept. (set : KeptSet) → kept ≡ Some set → (option_copied old.entry ≡ Some set) × ServesIn store.old rel.now set) }
-    ensures none { IfOk result (λ kept. kept ≡ None → (set : KeptSet) → option_copied old.entry ≡ Some set → ServesIn store.old rel.now set → ⊥) }
-    ensures keeps { Keeps store.old store.new }
+    ensures some { IfOk result (λ kept. (set : KeptSet) → kept ≡ Some set → (option_copied old.entry ≡ Some set) × OfCases problem.entry.now (λ c. ServesFor c set)) }
+    ensures none { IfOk result (λ kept. kept ≡ None → (set : KeptSet) → option_copied old.entry ≡ Some set → OfCases problem.entry.now (λ c. ServesFor c set → ⊥)) }
 {
     match old {
         Some(set) => {
-            let holds = serves(alloc, rel, store, set)?;
+            let holds = serves(alloc, problem, set)?;
             if holds {
                 let copy = copy_set(alloc, set)?;
                 Ok(Some(copy))
@@ -175,16 +166,16 @@ fn try_problem(
     ensures tried { IfOk result (λ done. OfCases problem (λ c. IsTried budgets.nodes budgets.steps (option_copied old.entry) (case_at_place place.entry c) done.tried)) }
     ensures shared { IfOk result (λ done. done.shared ≡ shared_in problem) }
 {
-    let bits = state_bits(&problem);
-    let mut store = Store::new(alloc, 2 * u32::from(bits))?;
-    let rel = relations_in_room(alloc, &problem, &mut store, budgets.nodes)?;
-    let kept = kept_of_old(alloc, &rel, &mut store, old)?;
+    let kept = kept_of_old(alloc, &problem, old)?;
     match kept {
         Some(set) => Ok(TriedCase {
             tried: Tried::True { set },
             shared: taken_back(problem),
         }),
         None => {
+            let bits = state_bits(&problem);
+            let mut store = Store::new(alloc, 2 * u32::from(bits))?;
+            let rel = relations_in_room(alloc, &problem, &mut store, budgets.nodes)?;
             let done = search_problem(alloc, problem, &rel, &mut store, place, budgets)?;
             Ok(done)
         }

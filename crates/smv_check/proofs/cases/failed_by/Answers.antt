@@ -7,10 +7,8 @@ returns-then-is_some c = λ case e well. follows_old _ c.args.progress.looked c.
 
 pub returns-then-holds : goal.returns-then-holds
 returns-then-holds c = λ case e well.
-    follows_met case c.args.store.now c.relations.new.store c.in_ok-rel.rel c.args.states c.relations.ensures.keeps c.requires.states (c.in_ok-rel.ensures.lists case e well)
-    c.args.progress.looked c.args.progress.failed (sym c.is_some.ensures ∙ c.if-is_some.false) c.in_ok-holds.holds c.in_ok-holds.ensures.means c.if-holds.true
+    follows_met _ c.args.progress.looked c.args.progress.failed (sym c.is_some.ensures ∙ c.if-is_some.false) c.in_ok-holds.holds (c.in_ok-holds.ensures case e well) c.if-holds.true
 
 pub returns : goal.returns
 returns c = λ case e well.
-    follows_failed case c.args.store.now c.relations.new.store c.in_ok-rel.rel c.args.states c.relations.ensures.keeps c.requires.states (c.in_ok-rel.ensures.lists case e well)
-    c.args.progress.looked c.args.progress.failed (sym c.is_some.ensures ∙ c.if-is_some.false) c.in_ok-holds.holds c.in_ok-holds.ensures.means c.if-holds.false
+    follows_failed _ c.args.progress.looked c.args.progress.failed (sym c.is_some.ensures ∙ c.if-is_some.false) c.in_ok-holds.holds (c.in_ok-holds.ensures case e well) c.if-holds.false
