@@ -1,4 +1,5 @@
 pub mod ReachLaws
-pub mod SearchLaws
+pub mod HeldLaws
+pub mod WalkLaws
 pub mod RankLaws
 pub mod OrderLaws

@@ -1,17 +1,31 @@
 -- How an order grows.
-use Rattle.std.proofs.Common.{◌≡◌, ◌≢◌, ℕ, ◌+◌, ◌<◌, ◌≤◌, ◌⊎◌, inl, inr, Bool, true, false, List, [], ◌∷◌, ◌++◌, take, length, get_or, replicate, set, refl, sym, subst, ap, ◌∙◌, arith}
+use Rattle.std.proofs.Common.{◌≡◌, ◌≢◌, ℕ, ◌+◌, ◌<◌, ◌≤◌, ◌⊎◌, inl, inr, Bool, true, false, List, [], ◌∷◌, ◌++◌, take, length, get_or, replicate, set, count_by, cond, refl, sym, subst, ap, ◌∙◌, arith}
 use Rattle.std.specs.List.{All, AllPairs, Any, Contains}
 use Rattle.std.proofs.lemmas.Grind.{common_steps}
 use Rattle.std.proofs.lemmas.List.{length-set, length-replicate, take-append-le, take_at}
 use Rattle.std.proofs.lemmas.List.Sums.{count_by-le-length}
+use Rattle.std.proofs.lemmas.List.Folds.{sum_by-replicate}
 use Rattle.std.proofs.lemmas.List.Elements.{All-push, All-weaker, All-nil, All-contains, Contains-push, Contains-append_left}
 use Rattle.std.proofs.lemmas.List.Quantifiers.{all_pairs_push}
 use Rattle.std.proofs.lemmas.Bool.{false≢true, cases_lt, cases_Bool}
 use Rattle.graphs.specs.Graph.{next}
-use Rattle.graphs.specs.Search.{IsSeen}
+use Rattle.graph_search.specs.Searches.{IsSeen}
 use Rattle.graphs.specs.Ranks.{IsLeftOut, IsOrder}
 use Rattle.graphs.specs.Placed.{IsSettled, Placed, Came}
-use Rattle.graphs.proofs.SearchLaws.{seen_kept, seen_new, seen_which, counted_step, queue_front, queue_last, queue_longer, none_counted}
+use Rattle.graph_search.proofs.SearchLaws.{seen_kept, seen_new, seen_which, counted_step}
+
+-- the order with one more
+order_front : (order : List ℕ) (node k : ℕ) → k < length order → get_or (order ++ node ∷ []) k 0 ≡ get_or order k 0
+order_front order node k h = grind (arith, common_steps)
+
+order_last : (order : List ℕ) (node : ℕ) → get_or (order ++ node ∷ []) (length order) 0 ≡ node
+order_last order node = grind (arith, common_steps)
+
+order_longer : (order : List ℕ) (node : ℕ) → length (order ++ node ∷ []) ≡ length order + 1
+order_longer order node = grind (arith, common_steps)
+
+none_counted : (n : ℕ) → count_by (λ flag. flag) (replicate n false) ≡ 0
+none_counted n = sum_by-replicate (λ (flag : Bool). cond flag 1 0) n false ∙ (omega arith)
 
 module _ (graph : List (List ℕ)) (placed : List Bool) (order : List ℕ) (s : Placed graph placed order) where
   module _ (node : ℕ) (within : node < length graph) (none : get_or placed node false ≡ false) (ready : All (IsSeen placed) (next graph node)) where
@@ -31,18 +45,18 @@ module _ (graph : List (List ℕ)) (placed : List Bool) (order : List ℕ) (s : 
     new_behind place h = elim (cases_lt place (length order)) [
       | inl before ↦
           subst (λ front. All (Contains front) (next graph (get_or (order ++ node ∷ []) place 0))) (sym (take-append-le place order (node ∷ []) (omega arith)))
-          (subst (λ x. All (Contains (take place order)) (next graph x)) (sym (queue_front order node place before)) (s.behind place before))
+          (subst (λ x. All (Contains (take place order)) (next graph x)) (sym (order_front order node place before)) (s.behind place before))
       | inr last ↦
-          let here : length order ≡ place = omega (arith, queue_longer order node) in
+          let here : length order ≡ place = omega (arith, order_longer order node) in
           subst (λ p. All (Contains (take p (order ++ node ∷ []))) (next graph (get_or (order ++ node ∷ []) p 0))) here
           (subst (λ front. All (Contains front) (next graph (get_or (order ++ node ∷ []) (length order) 0))) (sym (take_at order (node ∷ []) (length order) refl))
-          (subst (λ x. All (Contains order) (next graph x)) (sym (queue_last order node)) (All-weaker (IsSeen placed) (Contains order) s.stands (next graph node) ready)))
+          (subst (λ x. All (Contains order) (next graph x)) (sym (order_last order node)) (All-weaker (IsSeen placed) (Contains order) s.stands (next graph node) ready)))
     ]
 
     placed_more : Placed graph (set placed node true) (order ++ node ∷ [])
     placed_more = record {
       room = length-set placed node true ∙ s.room;
-      counted = omega (arith, queue_longer order node, s.counted, counted_step placed node new_room none);
+      counted = omega (arith, order_longer order node, s.counted, counted_step placed node new_room none);
       nodes = All-push (λ x. x < length graph) order node s.nodes within;
       has = All-push (IsSeen (set placed node true)) order node (All-weaker (IsSeen placed) (IsSeen (set placed node true)) (seen_kept placed node) order s.has) (seen_new placed node new_room);
       stands = new_stands;
@@ -54,7 +68,7 @@ module _ (graph : List (List ℕ)) (placed : List Bool) (order : List ℕ) (s : 
     pub came_next : Came graph (λ x. x ≡ node) placed (set placed node true) order (order ++ node ∷ []) true
     came_next = record {
       so_far = placed_more;
-      grows = λ e. omega (arith, queue_longer order node);
+      grows = λ e. omega (arith, order_longer order node);
       same_placed = λ e. absurd (cc);
       same_order = λ e. absurd (cc);
       settled = λ e. absurd (cc);

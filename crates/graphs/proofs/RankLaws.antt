@@ -5,7 +5,7 @@ use Rattle.std.proofs.lemmas.List.{get_or_past}
 use Rattle.graphs.specs.Graph.{next, lists, reaches}
 use Rattle.graphs.specs.Ranks.{rank, IsNoneAbove, Descends}
 use Rattle.graphs.proofs.ReachLaws.{reaches-closed}
-use Rattle.graphs.proofs.SearchLaws.{length_held}
+use Rattle.graphs.proofs.HeldLaws.{length_held}
 
 -- where no edge raises the rank, a node leads to none of a higher rank
 pub none_higher : (graph : List (List ℕ)) (ranks : List ℕ) (n target start : ℕ) → Descends graph ranks → rank ranks start < rank ranks target → reaches graph n target start ≡ false

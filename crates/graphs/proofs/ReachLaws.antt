@@ -1,13 +1,12 @@
 -- What is reached in a graph.
-use Rattle.std.proofs.Common.{◌≡◌, ◌≢◌, ℕ, zero, suc, ◌+◌, ◌<◌, inl, inr, Bool, true, false, ◌||◌, List, [], ◌∷◌, length, get_or, refl, sym, subst, ap, arith, zero-add, suc-add}
+use Rattle.std.proofs.Common.{◌≡◌, ◌≢◌, ℕ, zero, suc, ◌+◌, ◌<◌, inl, inr, Bool, true, false, ◌||◌, List, [], ◌∷◌, length, get_or, refl, ap, arith, zero-add, suc-add}
 use Rattle.std.specs.Prelude.{nat_eq}
 use Rattle.std.specs.List.{list_any}
 use Rattle.std.proofs.lemmas.Bool.{or_cases}
 use Rattle.std.proofs.lemmas.Bool.Decides.{nat_tests}
-use Rattle.std.proofs.lemmas.List.Folds.{list_any_at}
 use Rattle.graphs.specs.Graph.{next, reaches}
 
-or_right : (a b : Bool) → b ≡ true → a || b ≡ true
+pub or_right : (a b : Bool) → b ≡ true → a || b ≡ true
 or_right true b e = refl
 or_right false b e = e
 
@@ -30,7 +29,7 @@ any_none p (x ∷ xs) none = or_none (p x) (list_any p xs) (none 0 (omega arith)
 nat_eq_same : (x : ℕ) → nat_eq x x ≡ true
 nat_eq_same x = grind (arith, nat_tests)
 
-nat_eq_is : (x y : ℕ) → nat_eq x y ≡ true → x ≡ y
+pub nat_eq_is : (x y : ℕ) → nat_eq x y ≡ true → x ≡ y
 nat_eq_is x y e = grind (arith, nat_tests)
 
 pub nat_eq_other : (x y : ℕ) → x ≢ y → nat_eq x y ≡ false
@@ -52,22 +51,6 @@ module _ (graph : List (List ℕ)) where
   pub reaches-at_most : (more n target x : ℕ) → reaches graph n target x ≡ true → reaches graph (more + n) target x ≡ true
   reaches-at_most zero n target x e = rw zero-add e
   reaches-at_most (suc more) n target x e = rw suc-add (reaches-suc (more + n) target x (reaches-at_most more n target x e))
-
-  -- one edge more at the end
-  pub reaches-more : (n x start i : ℕ) → i < length (next graph x) → reaches graph n x start ≡ true → reaches graph (suc n) (get_or (next graph x) i 0) start ≡ true
-  reaches-more zero x start i h e =
-      let y = get_or (next graph x) i 0 in
-      let same : start ≡ x = nat_eq_is start x e in
-      subst (λ z. reaches graph 1 y z ≡ true) (sym same) (or_right (nat_eq x y) (list_any (reaches graph zero y) (next graph x)) (list_any_at (reaches graph zero y) (next graph x) i 0 h (reaches-same zero y)))
-  reaches-more (suc n) x start i h e = elim (or_cases (nat_eq start x) (list_any (reaches graph n x) (next graph start)) e) [
-    | inl here ↦
-        let y = get_or (next graph x) i 0 in
-        let same : start ≡ x = nat_eq_is start x here in
-        subst (λ z. reaches graph (suc (suc n)) y z ≡ true) (sym same) (or_right (nat_eq x y) (list_any (reaches graph (suc n) y) (next graph x)) (list_any_at (reaches graph (suc n) y) (next graph x) i 0 h (reaches-same (suc n) y)))
-    | inr there ↦
-        let y = get_or (next graph x) i 0 in
-        or_right (nat_eq start y) (list_any (reaches graph (suc n) y) (next graph start)) (any_weaker (reaches graph n x) (reaches graph (suc n) y) (next graph start) (λ z f. reaches-more n x z i h f) there)
-  ]
 
   -- what is closed under edges reaches only its own
   pub reaches-closed : (P : ℕ → Type 0) (target : ℕ) → ((x : ℕ) → P x → x ≢ target) → ((x : ℕ) → P x → (i : ℕ) → i < length (next graph x) → P (get_or (next graph x) i 0)) → (n x : ℕ) → P x → reaches graph n target x ≡ false

@@ -1,4 +1,3 @@
 pub mod Graph
-pub mod Search
 pub mod Ranks
 pub mod Placed

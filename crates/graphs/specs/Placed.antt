@@ -2,7 +2,7 @@
 use Rattle.std.specs.Prelude.{◌≡◌, ◌≢◌, ℕ, ◌<◌, ◌⊎◌, List, length, take, Bool, true, false, slice_index_or, count_by}
 use Rattle.std.specs.List.{All, AllPairs, Any, Contains}
 use Rattle.graphs.specs.Graph.{next}
-use Rattle.graphs.specs.Search.{IsSeen}
+use Rattle.graph_search.specs.Searches.{IsSeen}
 
 -- a node has no place
 abbrev pub HasNone : List Bool → ℕ → Type 0

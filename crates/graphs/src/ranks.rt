@@ -1,13 +1,13 @@
 // Ranks of nodes, by which cycles are ruled out without a search.
-ghost use Rattle.std.specs.Prelude.{◌≡◌, ◌<◌, length, true, false, slice_index_or, IfOk, MatchBool};
+ghost use Rattle.std.specs.Prelude.{◌≡◌, ◌<◌, length, true, IfOk, MatchBool};
 ghost use Rattle.std.specs.List.{All, Any};
-ghost use Rattle.graphs.specs.Graph.{lists, reaches, IsGraph};
+ghost use Rattle.graph_search.specs.Searches.{IsSeen};
+ghost use Rattle.graphs.specs.Graph.{lists, next, reaches, IsGraph};
 ghost use Rattle.graphs.specs.Ranks.{rank, IsNoneAbove, Descends, IsOrder};
-ghost use Rattle.graphs.specs.Search.{IsSeen};
 ghost use Rattle.graphs.specs.Placed.{HasNone, Placed, Came};
 
-use crate::reach;
-use crate::reach::{edges, unseen};
+use crate::reach::{has_mark, reaches};
+use graph_search::search::unseen;
 use std::alloc::{AllocError, Global};
 
 /// Ranks that no edge raises. Where the graph has no cycle, each edge lowers them.
@@ -38,7 +38,7 @@ pub fn leads_back(
     if rank(ranks, start) < rank(ranks, target) {
         return Ok(false);
     }
-    reach::reaches(alloc, graph, target, start)
+    reaches(alloc, graph, target, start)
 }
 
 // No edge raises the rank.
@@ -144,17 +144,20 @@ fn all_placed(placed: &[bool], nodes: &[usize]) -> bool
     ensures { MatchBool result (All (IsSeen placed.now) nodes.now) (Any (HasNone placed.now) nodes.now) }
 {
     for node in nodes {
-        if !has_place(placed, *node) {
+        if !has_mark(placed, *node) {
             return false;
         }
     }
     true
 }
 
-fn has_place(placed: &[bool], node: usize) -> bool
-    ensures { result ≡ slice_index_or placed.now node false }
+// The nodes to which a node has an edge.
+#[tactic(auto, using(crate::proofs::HeldLaws::next_held))]
+fn edges<'a>(graph: &'a [Vec<usize>], node: usize) -> &'a [usize]
+    requires { node < length graph.now }
+    ensures { result.now ≡ next (lists graph.now) node }
 {
-    placed.get(node).copied().unwrap_or(false)
+    graph[node].as_slice()
 }
 
 // The nodes that lead to no cycle, each behind all to which it has an edge. It is an order to try: nothing rests on it.

@@ -3,7 +3,7 @@ use Rattle.std.specs.List.{All}
 use Rattle.std.proofs.lemmas.Grind.{common_steps}
 use Rattle.std.proofs.lemmas.List.{take_all}
 use Rattle.std.proofs.lemmas.List.Elements.{All-more}
-use Rattle.graphs.specs.Search.{IsSeen}
+use Rattle.graph_search.specs.Searches.{IsSeen}
 use Rattle.graphs.proofs.ranks.all_placed.Goals as goal
 
 pub loop-node-preserved : goal.loop-node-preserved

@@ -1,6 +1,6 @@
 use Rattle.std.proofs.Common.{take}
 use Rattle.std.specs.List.{All}
-use Rattle.graphs.specs.Search.{IsSeen}
+use Rattle.graph_search.specs.Searches.{IsSeen}
 use Rattle.graphs.proofs.ranks.all_placed.Given as goal
 
 -- each so far has a place

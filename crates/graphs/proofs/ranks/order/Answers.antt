@@ -1,7 +1,7 @@
 use Rattle.std.proofs.Common.{sym, subst, arith}
 use Rattle.graphs.specs.Graph.{lists}
 use Rattle.graphs.specs.Ranks.{IsOrder}
-use Rattle.graphs.proofs.SearchLaws.{length_held}
+use Rattle.graphs.proofs.HeldLaws.{length_held}
 use Rattle.graphs.proofs.OrderLaws.{is_order}
 use Rattle.graphs.proofs.ranks.order.Goals as goal
 

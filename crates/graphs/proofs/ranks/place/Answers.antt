@@ -2,9 +2,9 @@ use Rattle.std.proofs.Common.{◌≡◌, ◌<◌, true, false, length, set, get_
 use Rattle.std.specs.List.{All}
 use Rattle.std.proofs.lemmas.List.{get_or_read}
 use Rattle.graphs.specs.Graph.{lists, next}
-use Rattle.graphs.specs.Search.{IsSeen}
+use Rattle.graph_search.specs.Searches.{IsSeen}
 use Rattle.graphs.specs.Placed.{Came}
-use Rattle.graphs.proofs.SearchLaws.{length_held}
+use Rattle.graphs.proofs.HeldLaws.{length_held}
 use Rattle.graphs.proofs.OrderLaws.{came_next}
 use Rattle.graphs.proofs.ranks.place.Goals as goal
 

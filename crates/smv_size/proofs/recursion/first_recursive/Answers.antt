@@ -3,7 +3,7 @@ use Rattle.std.specs.Prelude.{IfOk}
 use Rattle.std.specs.List.{flat_map}
 use Rattle.smv_core.specs.Values.{Name}
 use Rattle.graphs.specs.Graph.{lists, IsGraph}
-use Rattle.graphs.proofs.SearchLaws.{length_held}
+use Rattle.graphs.proofs.HeldLaws.{length_held}
 use Rattle.smv_mentions.specs.Said.{told}
 use Rattle.smv_size.specs.Recursion.{names_told, module_graph, least_from, recursive_told}
 use Rattle.smv_size.proofs.RecursionLaws.{graph_holds, graph_long}
