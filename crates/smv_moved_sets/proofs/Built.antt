@@ -152,8 +152,7 @@ module _ (set : KeptSet) (is : is_set set ≡ true) where
   branches : (i : ℕ) (node : Node) → slice_get set.nodes i ≡ Some node → (node.low < length (take i set.nodes) + 2) × (node.high < length (take i set.nodes) + 2)
   branches i node g =
       let line = line_at [] set.nodes i node lines g in
-      let differ = right_of (not (nat_eq node.low node.high)) _ (right_of (nat_le node.var last_var) _ (right_of (nat_eq (node.var % 2) 0) _ line)) in
-      (
+      let differ = right_of (not (nat_eq node.low node.high)) _ (right_of (nat_le node.var last_var) _ (right_of (nat_eq (node.var % 2) 0) _ line)) in (
         branch_there (take i set.nodes) node.var node.low (left_of (is_branch (take i set.nodes) node.var node.low) _ differ),
         branch_there (take i set.nodes) node.var node.high (left_of (is_branch (take i set.nodes) node.var node.high) _ (right_of (is_branch (take i set.nodes) node.var node.low) _ differ)),
       )
