@@ -1,4 +1,4 @@
--- What is tried of a case, from what stands in its store.
+-- What is tried of a case: its old set, and what a search leaves in its store.
 use Rattle.std.proofs.Common.{◌≡◌, ◌∙◌, ◌≤◌, ◌+◌, ◌*◌, ◌⊎◌, inl, inr, ◌↔◌, IsTrue, ℕ, Bool, true, false, List, ◌∷◌, [], Option, Some, None, refl, sym, ap, subst, arith}
 use Rattle.bdd_store.specs.declared.Ref.{Ref}
 use Rattle.bdd_store.specs.Diagram.{Diagram, IsLive, table}

@@ -7,6 +7,6 @@ returns-in-Some-clause-tried c = λ case e well.
     let found = c.in_ok-kept.ensures.some c.in-Some.set c.in-Some.is in
     tried_old c.args.budgets.nodes c.args.budgets.steps c.args.place case (option_copied c.args.old) c.in-Some.set found.0 (found.1 case e well)
 
-pub returns-clause-tried : goal.returns-clause-tried
-returns-clause-tried c = λ case e well.
+pub returns-in_ok-done-in-None-clause-tried : goal.returns-in_ok-done-in-None-clause-tried
+returns-in_ok-done-in-None-clause-tried c = λ case e well.
     tried_new c.args.budgets.nodes c.args.budgets.steps c.args.place case (option_copied c.args.old) (λ set is. c.in_ok-kept.ensures.none c.in-None.is set is case e well) c.in_ok-done-in-None.done.tried (c.in_ok-done-in-None.ensures.searched case e well)
