@@ -123,6 +123,19 @@ def states(text):
     return frames
 
 
+def comment_of(circuit):
+    """The lines of the comment behind the names of a circuit. Its gates, two numbers each, are bytes of any value, also those of an end of line: they are passed over one by one."""
+    _, _, latches, outputs, gates, *others = map(int, circuit.split(b"\n", 1)[0].split()[1:])
+    place = 0
+    for _ in range(1 + latches + outputs + sum(others)):
+        place = circuit.index(b"\n", place) + 1
+    for _ in range(2 * gates):
+        while circuit[place] & 128:
+            place += 1
+        place += 1
+    return circuit[place:].split(b"\nc\n", 1)[1].decode().splitlines()
+
+
 def codes(comment):
     """For each code what each element is where its bits spell it."""
     told = [line.split(":", 1)[1].strip() for line in comment if line.startswith(" time ")]
@@ -195,7 +208,7 @@ class Engine:
         self.abc(circuit, "dc2", f"bmc3 -F {depth + 1} -T {self.asked.seconds}", f"write_cex -n {cex}")
         if not cex.exists():
             return None
-        comment = circuit.read_bytes().split(b"\nc\n", 1)[1].decode().splitlines()
+        comment = comment_of(circuit.read_bytes())
         widths = [int(width) for width in re.findall(r"^ .*? bits (\d+)", self.look("cone", name, str(case)).decode(), re.M)]
         frames = states(cex.read_text())
         frames += [{} for _ in range(len(frames), depth + 1)]
