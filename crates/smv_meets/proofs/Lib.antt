@@ -1,3 +1,3 @@
 pub mod Below
-pub mod Bits
-pub mod Over
+pub mod BitFunctions
+pub mod Orders

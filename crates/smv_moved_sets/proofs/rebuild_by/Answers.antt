@@ -1,4 +1,4 @@
-use Rattle.std.proofs.Common.{rules, ◌≡◌, ◌∙◌, ◌≤◌, ◌<◌, ◌/◌, ℕ, List, arith, sym, ap, subst, length, if◌then◌else◌, slice_index_or}
+use Rattle.std.proofs.Common.{rules, ◌∙◌, ◌≤◌, ◌<◌, ◌/◌, ℕ, List, arith, sym, ap, subst, length, if◌then◌else◌}
 use Rattle.bdd_store.specs.declared.Ref.{Ref}
 use Rattle.bdd_store.specs.Diagram.{IsLive, table, ref_at}
 use Rattle.smv_proof.specs.declared.proof.Node.{Node}

@@ -1,4 +1,4 @@
-use Rattle.smv_meets.proofs.Bits.{AreUpTo}
+use Rattle.smv_meets.proofs.BitFunctions.{AreUpTo}
 use Rattle.smv_meets.proofs.bits.bits_at.Given as goal
 
 abbrev pub invariant-loop-place : goal.invariant-loop-place

@@ -1,13 +1,11 @@
-use Rattle.std.proofs.Common.{◌≡◌, ◌∙◌, ℕ, ◌*◌, List, length, true, sym, ap, subst}
-use Rattle.bdd_store.specs.declared.Ref.{Ref}
+use Rattle.std.proofs.Common.{◌∙◌, ℕ, List, length, sym, ap, subst}
 use Rattle.bdd_store.specs.Diagram.{table}
-use Rattle.smv_rings.specs.Lists.{IsCurrent, lists_of}
+use Rattle.smv_rings.specs.Lists.{lists_of}
 use Rattle.smv_rings.proofs.Kept.{rel_kept, lists_kept}
 use Rattle.law_obligations.specs.Readings.{state_bits}
 use Rattle.smv_orders.specs.Places.{ArePlaces}
 use Rattle.smv_orders.proofs.Orders.{order_few, order_whole, places_counted}
-use Rattle.smv_proof.specs.Meanings.{is_below}
-use Rattle.smv_meets.proofs.Over.{places_room, bits_live, below_shown, current_shown, moved_shown, answer_is}
+use Rattle.smv_meets.proofs.Orders.{vars_made, places_room, bits_live, below_shown, current_shown, moved_shown, answer_is}
 use Rattle.smv_meets.proofs.over.meets_over.Goals as goal
 
 pub places_in-requires-clause-few : goal.places_in-requires-clause-few
@@ -49,5 +47,5 @@ returns c = λ case e well.
 
 pub bits_at-requires : goal.bits_at-requires
 bits_at-requires c =
-    places_room c.args.problem.now c.args.order.now c.requires.order c.requires.problem c.relations_over.new.store.vars (λ case e well. c.relations_over.ensures.keeps.vars ∙ (c.hold_at_most.ensures.keeps.vars ∙ vars_made c.args.problem.now _ c.in_ok-store.ensures.vars c.state_bits.ensures case e well))
+    places_room c.args.problem.now c.args.order.now c.requires.order c.requires.problem c.relations_over.new.store.vars (λ case e well. c.relations_over.ensures.keeps.vars ∙ (c.hold_at_most.ensures.keeps.vars ∙ vars_made c.args.problem.now c.in_ok-store.store.vars c.from.result c.state_bits-bits.result c.in_ok-store.ensures.vars c.from.ensures c.state_bits-bits.ensures case e well))
     c.in_ok-places.places.items c.as_slice.result.now c.as_slice.ensures.value c.in_ok-places.ensures.within

@@ -3,7 +3,9 @@ use Rattle.std.proofs.Common.{◌≡◌, ◌∙◌, ◌⊎◌, inl, inr, ℕ, �
 use Rattle.std.specs.Prelude.{get_or}
 use Rattle.std.proofs.lemmas.List.{get_or_append_left, get_or_push}
 use Rattle.bdd_store.specs.declared.Ref.{Ref}
-use Rattle.bdd_store.specs.Diagram.{Diagram, IsLive, Keeps, table, ref_at}
+use Rattle.bdd_store.specs.Diagram.{Diagram, IsLive, Keeps, table, ref_at, first_var}
+use Rattle.law_obligations.specs.Sets.{Has}
+use Rattle.smv_orders.proofs.Orders.{has_at}
 use Rattle.smv_meets.specs.Bits.{AreBitsAt}
 
 -- those of so many places
@@ -12,6 +14,17 @@ pub record AreUpTo (old d : Diagram) (places : List ℕ) (n : ℕ) (bits : List 
   pub count : length bits ≡ n
   pub live : (b : ℕ) → b < n → IsLive d (ref_at bits b)
   pub tables : (b : ℕ) → b < n → (a : ℕ → Bool) → table d (ref_at bits b) a ≡ a (2 * get_or places b 0)
+
+-- the variable of a place is one of the store, and stands before those on which a constant depends
+module _ (old d : Diagram) (places : List ℕ) (i place : ℕ) (keeps : Keeps old d) (within : (p : ℕ) → Has places p → 2 * p < old.vars) (lt : i < length places) (same : place ≡ get_or places i 0) where
+  in_old : 2 * place < old.vars
+  in_old = let there = within (get_or places i 0) (has_at places i lt) in omega (arith, there, same)
+
+  pub is_variable : 2 * place < d.vars
+  is_variable = let there = in_old in let vars = keeps.vars in omega (arith, there, vars)
+
+  pub is_before : (r : Ref) → IsLive old r → first_var old r ≡ old.vars → 2 * place < first_var d r
+  is_before r live first = let there = in_old in let kept = keeps.firsts r live in omega (arith, there, kept, first)
 
 pub own_bit : (t : Bool) → (if t then true else false) ≡ t
 own_bit true = refl

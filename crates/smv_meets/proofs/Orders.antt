@@ -2,13 +2,11 @@
 use Rattle.std.proofs.Common.{◌≡◌, ◌∙◌, ◌↔◌, ℕ, ◌+◌, ◌*◌, ◌/◌, ◌%◌, ◌<◌, List, length, Bool, true, false, IsTrue, if◌then◌else◌, refl, sym, ap, subst, arith}
 use Rattle.std.specs.Prelude.{◌==◌, get_or}
 use Rattle.bdd_store.specs.declared.Ref.{Ref}
-use Rattle.bdd_store.specs.Diagram.{Diagram, IsLive, AreLive, Keeps, table, ref_at}
+use Rattle.bdd_store.specs.Diagram.{Diagram, AreLive, table}
 use Rattle.bdd_store.specs.Graph.{with_at}
 use Rattle.bdd_store.proofs.Walks.{with_other}
-use Rattle.bdd_ops.specs.Functions.{Function, FreeOf}
-use Rattle.smv_rings.specs.declared.Rel.{Rel}
-use Rattle.smv_rings.specs.Functions.{DependsBelow}
-use Rattle.smv_rings.specs.Lists.{Lists, State, IsCurrent, at, lists_of}
+use Rattle.bdd_ops.specs.Functions.{Function}
+use Rattle.smv_rings.specs.Lists.{Lists, State, IsCurrent, at}
 use Rattle.smv_rings.specs.Paths.{IsInductive}
 use Rattle.law_obligations.specs.Sets.{Has}
 use Rattle.law_obligations.specs.Readings.{PosedCase, IsCase, state_bits}
@@ -28,6 +26,10 @@ use Rattle.smv_proof.specs.Meanings.{meaning, is_below}
 use Rattle.smv_moved_sets.specs.Seen.{seen_by}
 use Rattle.smv_meets.specs.Bits.{AreBitsAt}
 use Rattle.smv_meets.proofs.Below.{meaning_below}
+
+-- a store of two variables for each bit
+pub vars_made : (p : Problem) (vars twice bits : ℕ) → vars ≡ 2 * twice → twice ≡ bits → OfCases p (λ c. bits ≡ state_bits c) → OfCases p (λ c. vars ≡ 2 * state_bits c)
+vars_made p vars twice bits made same counted c is well = made ∙ ap (λ (n : ℕ). 2 * n) (same ∙ counted c is well)
 
 -- the variables of the places of an order are there
 pub places_room : (p : Problem) (order : List ℕ) → OfCases p (λ c. IsOrder (state_bits c) order) → IsProblem p → (vars : ℕ) → OfCases p (λ c. vars ≡ 2 * state_bits c) → (places shown : List ℕ) → shown ≡ places →
@@ -74,8 +76,7 @@ module _ (n : ℕ) (set : KeptSet) (below : is_below (2 * n) set ≡ true) (d : 
 pub answer_is : OrdersKeepInduction → (c : PosedCase) → IsCase c → (order : List ℕ) → IsOrder (state_bits c) order → (set : KeptSet) → is_below (2 * state_bits c) set ≡ true → (l : Lists) → l ≡ lists_over c (arranged order) →
     (f : Function) → f ≡ moved order (meaning set) → (x : Bool) → IsTrue x ↔ IsInductive l f → IsTrue x ↔ IsInductive (case_lists c) (meaning set)
 answer_is law c is order o set below l lists f same x means =
-    let iff = law c is order o (meaning set) (meaning_below (2 * state_bits c) set below) in
-    (
+    let iff = law c is order o (meaning set) (meaning_below (2 * state_bits c) set below) in (
       (λ t. iff.0 (subst (λ (g : Function). IsInductive (lists_over c (arranged order)) g) same (subst (λ (k : Lists). IsInductive k f) lists (means.0 t)))),
       (λ i. means.1 (subst (λ (k : Lists). IsInductive k f) (sym lists) (subst (λ (g : Function). IsInductive (lists_over c (arranged order)) g) (sym same) (iff.1 i)))),
     )
